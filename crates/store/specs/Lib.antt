@@ -1,0 +1,3 @@
+pub mod Holding
+pub mod Listed
+pub mod Records
