@@ -29,3 +29,7 @@ bookNumber book.Answers = 8
 bookNumber book.Contradiction = 9
 bookNumber book.Page = 10
 bookNumber book.Match = 11
+
+-- the store's refusal, as one of the register's
+abbrev pub fromStore : StoreFault → BookFault
+fromStore fault = book.Store fault

@@ -1,6 +1,6 @@
 //! Why a call is refused: each refusal has a number, and some tell the argument at fault.
 ghost use mathlib.Core.Path.{_≡_};
-ghost use Rattle.league.specs.Faults.{storeNumber, bookNumber};
+ghost use Rattle.league.specs.Faults.{storeNumber, bookNumber, fromStore};
 
 /// The argument of a call that is at fault, counted from 1 from the left.
 #[derive(Clone, Copy, PartialEq, Eq)]
@@ -83,6 +83,8 @@ impl BookFault {
 
 /// A store's refusal is one of the register's.
 pub impl From<StoreFault> for BookFault as BookFromStore {
+    ghost converts = { λ fault r. r ≡ fromStore fault };
+
     fn from(fault: StoreFault) -> BookFault {
         BookFault::Store(fault)
     }
