@@ -17,17 +17,17 @@ pub first-le : (byte : ℕ) (s : Bytes) → firstAt byte s ≤ length s
 first-le byte [] = omega arith
 first-le byte (b ∷ bs) =
     elim (eqb b byte) as (λ t. cond t 0 (suc (firstAt byte bs)) ≤ suc (length bs))
-      [ true ↦ omega arith | false ↦ omega (arith, first-le byte bs) ]
+    [ true ↦ omega arith | false ↦ omega (arith, first-le byte bs) ]
 
 -- where the separator comes, the piece before it is the first
 pub cut-found : (last : List Bytes) (byte : ℕ) (s : Bytes) → firstAt byte s < length s
-  → cut last byte s ≡ take (firstAt byte s) s ∷ cut last byte (drop (firstAt byte s + 1) s)
+    → cut last byte s ≡ take (firstAt byte s) s ∷ cut last byte (drop (firstAt byte s + 1) s)
 cut-found last byte [] l = absurd (omega arith)
 cut-found last byte (b ∷ bs) l = ⊎-elim (λ e. rw e refl) (there (cut-found last byte bs)) (cases-bool (eqb b byte))
   where
     there : (firstAt byte bs < length bs → cut last byte bs ≡ take (firstAt byte bs) bs ∷ cut last byte (drop (firstAt byte bs + 1) bs))
-      → eqb b byte ≡ false
-      → cut last byte (b ∷ bs) ≡ take (firstAt byte (b ∷ bs)) (b ∷ bs) ∷ cut last byte (drop (firstAt byte (b ∷ bs) + 1) (b ∷ bs))
+        → eqb b byte ≡ false
+        → cut last byte (b ∷ bs) ≡ take (firstAt byte (b ∷ bs)) (b ∷ bs) ∷ cut last byte (drop (firstAt byte (b ∷ bs) + 1) (b ∷ bs))
     there again e =
         let k : suc (firstAt byte bs) < suc (length bs) = rw e at l in
         let h = again (omega arith) in
@@ -57,16 +57,16 @@ lines-last (b ∷ (a ∷ rest)) z l =
 
 -- one step of a search for a byte, and its end
 pub first-step : (byte : ℕ) (s : Bytes) (i : ℕ) → i < length s
-  → firstAt byte (drop i s) ≡ cond (eqb (getD s i 0) byte) 0 (suc (firstAt byte (drop (i + 1) s)))
+    → firstAt byte (drop i s) ≡ cond (eqb (getD s i 0) byte) 0 (suc (firstAt byte (drop (i + 1) s)))
 first-step byte s i l = at-drop-more (firstAt byte) s i 0 l
 
 -- a line has a field
 pub fields-some : (s : Bytes) → (w : Bytes) × (ws : List Bytes) × (fields s ≡ w ∷ ws)
 fields-some s =
     ⊎-elim
-      (λ l. (take (firstAt 32 s) s, fields (drop (firstAt 32 s + 1) s), cut-found ([] ∷ []) 32 s l))
-      (λ l. (s, [], fields-last s l))
-      (cases-lt (firstAt 32 s) (length s))
+    (λ l. (take (firstAt 32 s) s, fields (drop (firstAt 32 s + 1) s), cut-found ([] ∷ []) 32 s l))
+    (λ l. (s, [], fields-last s l))
+    (cases-lt (firstAt 32 s) (length s))
 
 -- the invariant of a search for a byte: found at i, not found at i, and the end
 pub search-found : (byte : ℕ) (s : Bytes) (i : ℕ) → i < length s → firstAt byte s ≡ i + firstAt byte (drop i s) → getD s i 0 ≡ byte → i ≡ firstAt byte s
@@ -75,7 +75,7 @@ search-found byte s i l h e =
     omega arith
 
 pub search-more : (byte : ℕ) (s : Bytes) (i : ℕ) → i < length s → firstAt byte s ≡ i + firstAt byte (drop i s) → (getD s i 0 ≡ byte → ⊥)
-  → firstAt byte s ≡ (i + 1) + firstAt byte (drop (i + 1) s)
+    → firstAt byte s ≡ (i + 1) + firstAt byte (drop (i + 1) s)
 search-more byte s i l h e =
     let k : firstAt byte (drop i s) ≡ suc (firstAt byte (drop (i + 1) s)) = first-step byte s i l ∙ rw (ne-eqb (getD s i 0) byte e) refl in
     omega arith
@@ -87,7 +87,7 @@ fields-empty (b ∷ bs) e = ⊎-elim (λ t. rw t refl) (λ t. let k : suc (first
 
 -- the same, with the parts as the code takes them: `&s[0..p]` and `&s[p + 1..]`
 pub cut-parts : (last : List Bytes) (byte : ℕ) (s : Bytes) (p : ℕ) → p ≡ firstAt byte s → p < length s
-  → cut last byte s ≡ take (p - 0) s ∷ cut last byte (take (length s - (p + 1)) (drop (p + 1) s))
+    → cut last byte s ≡ take (p - 0) s ∷ cut last byte (take (length s - (p + 1)) (drop (p + 1) s))
 cut-parts last byte s p e l =
     let z : p - 0 ≡ p = omega arith in
     let h = cut-found last byte s (omega arith) in

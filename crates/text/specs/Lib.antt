@@ -1,3 +1,4 @@
 pub mod Faults
+pub mod Forms
 pub mod Lines
 pub mod Tokens

@@ -1,5 +1,7 @@
 //! Lines of text: what a line means, what is printed of each, and the run over a whole text.
+pub mod calls;
 pub mod faults;
 pub mod fields;
+pub mod forms;
 pub mod scan;
 pub mod tokens;

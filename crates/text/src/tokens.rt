@@ -22,7 +22,11 @@ impl<'a> Fields<'a> {
         ensures fields { λ r. ⌜ left (r .more) (now (r .rest)) ≡ fieldsOf (now (line .entry)) ⌝ }
         ensures number { λ r. ⌜ r .number ≡ 1 ⌝ }
     {
-        Fields { rest: line, more: true, number: 1 }
+        Fields {
+            rest: line,
+            more: true,
+            number: 1,
+        }
     }
 
     /// Takes the next field; one that is missing or empty is left where it is.
@@ -51,6 +55,10 @@ impl<'a> Fields<'a> {
     pub fn end(&self) -> Result<(), Unreadable>
         ensures { λ r. ⌜ r ≡ atEnd (now (self .entry) .number) (left (now (self .entry) .more) (now (now (self .entry) .rest))) ⌝ }
     {
-        if self.more { Err(Unreadable(self.number)) } else { Ok(()) }
+        if self.more {
+            Err(Unreadable(self.number))
+        } else {
+            Ok(())
+        }
     }
 }
