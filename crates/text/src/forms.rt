@@ -11,7 +11,7 @@ use league::roles::Mark;
 use league::roles::Role;
 
 /// What a field of a line can say.
-pub trait FieldForm: Sized {
+pub trait FieldForm: Copy {
     ghost form: { Bytes → Option Self };
 
     /// What the field says, where it is well formed.

@@ -3,5 +3,6 @@ pub mod calls;
 pub mod faults;
 pub mod fields;
 pub mod forms;
+pub mod reader;
 pub mod scan;
 pub mod tokens;

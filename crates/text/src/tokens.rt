@@ -3,9 +3,10 @@ ghost use mathlib.Core.Path.{_≡_};
 ghost use mathlib.Core.List.{[]};
 ghost use Prim.Native.Nat.{_+_};
 ghost use Rattle.text.specs.Lines.{fields as fieldsOf};
-ghost use Rattle.text.specs.Tokens.{left, Took, atEnd};
+ghost use Rattle.text.specs.Tokens.{left, Took, ReadField, atEnd};
 use crate::faults::Unreadable;
 use crate::fields::Fields;
+use crate::forms::FieldForm;
 use crate::scan::find_byte;
 
 /// A field of a line as a part of it, or the lack of one, with the field's number.
@@ -49,6 +50,19 @@ impl<'a> Fields<'a> {
         }
         self.rest = &rest[end + 1..];
         Token::Field(&rest[0..end], number)
+    }
+
+    /// What the next field says, where it is well formed.
+    pub fn read<T: FieldForm>(&mut self) -> Result<T, Unreadable>
+        ensures { λ r. ⌜ ReadField form (left (now (self .entry) .more) (now (now (self .entry) .rest))) (now (self .entry) .number) r (left (now (self .exit) .more) (now (now (self .exit) .rest))) (now (self .exit) .number) ⌝ }
+    {
+        match self.next_token() {
+            Token::Field(part, number) => match T::read(part) {
+                Some(value) => Ok(value),
+                None => Err(Unreadable(number)),
+            },
+            Token::Missing(number) => Err(Unreadable(number)),
+        }
     }
 
     /// Nothing where all fields are read, else the number of the next one, which is extra.
