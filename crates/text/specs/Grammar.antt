@@ -39,12 +39,17 @@ three p q r ws =
     andThen (got r 4 (others (others ws))) (λ c.
     andThen (atEnd 5 (others (others (others ws)))) (λ _. Ok (a, b, c)))))
 
--- the rest of a line, by its letter: K kind name (75), L link name name (76)
+-- the rest of a line, by its letter: K kind name (75), L link name name (76), R mark mark (82), N mark mark (78),
+-- S mark role kind (83), H role role (72); no other line is readable
 abbrev pub byLetter : ℕ → List Bytes → Result Call Unreadable
 byLetter c ws =
     cond (eqb c 75) (andThen (two numeral numeral ws) (λ t. Ok (EnterFact (fact.Is (record { 0 = t .0 }) (record { 0 = t .1 })))))
     (cond (eqb c 76) (andThen (three numeral numeral numeral ws) (λ t. Ok (EnterFact (fact.Joins (record { 0 = t .0 }) (record { 0 = t .1 }) (record { 0 = t .2 })))))
-      (Err (record { 0 = 1 })))
+    (cond (eqb c 82) (andThen (two markForm markForm ws) (λ t. Ok (EnterRule (rule.Inclusion (t .0) (t .1)))))
+    (cond (eqb c 78) (andThen (two markForm markForm ws) (λ t. Ok (EnterRule (rule.Exclusion (t .0) (t .1)))))
+    (cond (eqb c 83) (andThen (three markForm roleForm kindForm ws) (λ t. Ok (EnterRule (rule.Required (t .0) (t .1) (t .2)))))
+    (cond (eqb c 72) (andThen (two roleForm roleForm ws) (λ t. Ok (EnterRule (rule.RoleInclusion (t .0) (t .1)))))
+      (Err (record { 0 = 1 })))))))
 
 -- the call that the fields of a line mean, or the first field that is misformed, missing or extra
 abbrev pub reading : List Bytes → Result Call Unreadable

@@ -58,6 +58,22 @@ fn read_rest(letter: u8, fields: &mut Fields) -> Result<Call, Unreadable>
             let (link, from, to) = read_three(fields)?;
             Ok(Call::EnterFact(Fact::Joins(Link(link), Name(from), Name(to))))
         }
+        'R' => {
+            let (first, second) = read_two(fields)?;
+            Ok(Call::EnterRule(Rule::Inclusion(first, second)))
+        }
+        'N' => {
+            let (first, second) = read_two(fields)?;
+            Ok(Call::EnterRule(Rule::Exclusion(first, second)))
+        }
+        'S' => {
+            let (mark, role, kind) = read_three(fields)?;
+            Ok(Call::EnterRule(Rule::Required(mark, role, kind)))
+        }
+        'H' => {
+            let (first, second) = read_two(fields)?;
+            Ok(Call::EnterRule(Rule::RoleInclusion(first, second)))
+        }
         _ => Err(Unreadable(1)),
     }
 }
