@@ -3,6 +3,8 @@ pub mod calls;
 pub mod faults;
 pub mod fields;
 pub mod forms;
+pub mod output;
 pub mod reader;
 pub mod scan;
 pub mod tokens;
+mod writer;
