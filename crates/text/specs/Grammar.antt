@@ -49,7 +49,7 @@ byLetter c ws =
     (cond (eqb c 78) (andThen (two markForm markForm ws) (λ t. Ok (EnterRule (rule.Exclusion (t .0) (t .1)))))
     (cond (eqb c 83) (andThen (three markForm roleForm kindForm ws) (λ t. Ok (EnterRule (rule.Required (t .0) (t .1) (t .2)))))
     (cond (eqb c 72) (andThen (two roleForm roleForm ws) (λ t. Ok (EnterRule (rule.RoleInclusion (t .0) (t .1)))))
-      (Err (record { 0 = 1 })))))))
+    (Err (record { 0 = 1 })))))))
 
 -- the call that the fields of a line mean, or the first field that is misformed, missing or extra
 abbrev pub reading : List Bytes → Result Call Unreadable

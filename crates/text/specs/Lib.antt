@@ -1,4 +1,5 @@
 pub mod Faults
+pub mod Format
 pub mod Forms
 pub mod Grammar
 pub mod Lines

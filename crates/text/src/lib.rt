@@ -5,6 +5,7 @@ pub mod fields;
 pub mod forms;
 pub mod output;
 pub mod reader;
+pub mod render;
 pub mod scan;
 pub mod tokens;
 mod writer;

@@ -33,7 +33,9 @@ fn read_two<A: FieldForm, B: FieldForm>(fields: &mut Fields) -> Result<(A, B), U
 }
 
 /// Three fields of these forms, and no more.
-fn read_three<A: FieldForm, B: FieldForm, C: FieldForm>(fields: &mut Fields) -> Result<(A, B, C), Unreadable>
+fn read_three<A: FieldForm, B: FieldForm, C: FieldForm>(
+    fields: &mut Fields,
+) -> Result<(A, B, C), Unreadable>
     requires { ⌜ now fields .number ≡ 2 ⌝ }
     ensures { λ r. ⌜ r ≡ three (A·FieldForm .form) (B·FieldForm .form) (C·FieldForm .form) (left (now (fields .entry) .more) (now (now (fields .entry) .rest))) ⌝ }
 {
