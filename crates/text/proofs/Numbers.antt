@@ -1,6 +1,6 @@
 -- The decimal digits of a number, one at a time.
 use mathlib.Core.Path.{_≡_, ap, _∙_}
-use mathlib.Core.List.{[], _∷_}
+use mathlib.Core.List.{List, [], _∷_, _++_, append-assoc}
 use Prim.Native.Nat.{ℕ, _+_, _/_, _%_, _^_, _<_, _≤_}
 use native.Mathlib.Omega.{arith}
 use lib.ListN.{length}
@@ -17,3 +17,8 @@ length-step n l h = ap length (decimal-step n l h) ∙ length-push (decimal (n /
 -- a number of the machine has at most 20 digits
 pub digits-few : (n : ℕ) → n < 2 ^ 64 → length (decimal n) ≤ 20
 digits-few n h = length-decimal-le 20 n (omega arith) (omega arith) h
+
+-- pieces that were written one after the other, as one line
+pub regroup : (p a b c d : List ℕ) (s t : ℕ)
+  → (p ++ a ++ (s ∷ []) ++ b ++ (s ∷ []) ++ c ++ (s ∷ []) ++ d ++ (t ∷ [])) ≡ p ++ (a ++ (s ∷ (b ++ (s ∷ (c ++ (s ∷ (d ++ (t ∷ []))))))))
+regroup p a b c d s t = simp append-assoc
