@@ -18,3 +18,10 @@ pub enum Fact {
     Is(Kind, Name),
     Joins(Link, Name, Name),
 }
+
+/// What became of an entry that was not refused: it is new, or was known before.
+#[derive(Clone, Copy, PartialEq, Eq)]
+pub enum Entry {
+    New,
+    Known,
+}
