@@ -1,1 +1,5 @@
 pub mod Flags
+pub mod Follows
+pub mod Marks
+pub mod Pairs
+pub mod RuleSet

@@ -1,2 +1,5 @@
 //! The rules of a register: which were accepted, and the pairs that they use.
-pub mod flags;
+mod flags;
+pub mod pair;
+mod pairs;
+mod ranges;
