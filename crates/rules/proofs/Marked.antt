@@ -1,13 +1,12 @@
 -- Marks and roles: what the same code says, and what the ranges say.
 use mathlib.Core.Path.{_≡_, refl, sym, ap, _∙_}
-use mathlib.Core.Bool.{Bool, true, false, cond, _&&_, _||_}
-use mathlib.Core.Logic.{⊎-elim}
+use mathlib.Core.Bool.{Bool, true, false, not, cond, _&&_, _||_}
 use Prim.Native.Nat.{ℕ, _+_, _*_, _<_, _≤_}
 use native.Mathlib.Omega.{arith}
 use lib.Dec.{T, eqb, ltb}
-use Rattle.std.proofs.shelf.Tests.{eqb-true, eq-eqb, ltb-true, and-parts, cases-bool}
+use Rattle.std.proofs.shelf.Tests.{eqb-true, ltb-true, and-parts, not-true, not-false}
 use Rattle.std.proofs.shelf.Ways.{tells}
-use Rattle.std.specs.declared.option.Option.the-variants.{Some, None}
+use Rattle.std.specs.Options.{isSome}
 use Rattle.league.specs.Roles.{code, inverse, linkOf}
 use Rattle.league.specs.declared.facts.Kind.{Kind}
 use Rattle.league.specs.declared.roles.Role.{Role}
@@ -109,16 +108,22 @@ rule-in (RoleInclusion R S) w =
     let p = and-parts (roleWithin R) (roleWithin S) w in
     (ltb-true (linkOf R .0) 32 (p .0), ltb-true (linkOf S .0) 32 (p .1))
 
--- a rule without a fault is in range, and one in range has none
-pub fault-within : (r : Rule) → ruleFault r ≡ None → ruleWithin r ≡ true
-fault-within (Inclusion (Is k) (Is m)) e = grind (arith, tells)
-fault-within (Inclusion (Is k) (Has S)) e = grind (arith, tells)
-fault-within (Inclusion (Has R) (Is m)) e = grind (arith, tells)
-fault-within (Inclusion (Has R) (Has S)) e = grind (arith, tells)
-fault-within (Exclusion (Is k) (Is m)) e = grind (arith, tells)
-fault-within (Exclusion (Is k) (Has S)) e = grind (arith, tells)
-fault-within (Exclusion (Has R) (Is m)) e = grind (arith, tells)
-fault-within (Exclusion (Has R) (Has S)) e = grind (arith, tells)
-fault-within (Required (Is m) R k) e = grind (arith, tells)
-fault-within (Required (Has Q) R k) e = grind (arith, tells)
-fault-within (RoleInclusion R S) e = grind (arith, tells)
+-- a rule has a fault exactly when it is not in range
+pub fault-within : (r : Rule) → isSome (ruleFault r) ≡ not (ruleWithin r)
+fault-within (Inclusion (Is k) (Is m)) = grind (arith, tells)
+fault-within (Inclusion (Is k) (Has S)) = grind (arith, tells)
+fault-within (Inclusion (Has R) (Is m)) = grind (arith, tells)
+fault-within (Inclusion (Has R) (Has S)) = grind (arith, tells)
+fault-within (Exclusion (Is k) (Is m)) = grind (arith, tells)
+fault-within (Exclusion (Is k) (Has S)) = grind (arith, tells)
+fault-within (Exclusion (Has R) (Is m)) = grind (arith, tells)
+fault-within (Exclusion (Has R) (Has S)) = grind (arith, tells)
+fault-within (Required (Is m) R k) = grind (arith, tells)
+fault-within (Required (Has Q) R k) = grind (arith, tells)
+fault-within (RoleInclusion R S) = grind (arith, tells)
+
+pub some-without : (r : Rule) → isSome (ruleFault r) ≡ true → ruleWithin r ≡ false
+some-without r e = not-true (ruleWithin r) (sym (fault-within r) ∙ e)
+
+pub none-within : (r : Rule) → isSome (ruleFault r) ≡ false → ruleWithin r ≡ true
+none-within r e = not-false (ruleWithin r) (sym (fault-within r) ∙ e)

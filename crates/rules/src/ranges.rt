@@ -62,7 +62,8 @@ pub fn rule_fault(rule: Rule) -> Option<BookFault>
 
 /// The row or column of a mark in a table over marks.
 pub fn mark_code(mark: Mark) -> usize
-    ensures { λ r. ⌜ r ≡ markCode mark ⌝ }
+    ensures tells { λ r. ⌜ r ≡ markCode mark ⌝ }
+    ensures below { λ r. ⌜ (markWithin mark ≡ true → r < 128) ⌝ }
 {
     match mark {
         Mark::Is(kind) => kind.0 as usize,
