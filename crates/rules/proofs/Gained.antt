@@ -19,8 +19,8 @@ use Rattle.league.specs.declared.roles.Mark.{Mark}
 use Rattle.league.specs.declared.rules.Rule.{Rule}
 use Rattle.league.specs.declared.rules.Rule.the-variants.{Inclusion, Exclusion, Required, RoleInclusion}
 use Rattle.rules.specs.Marks.{sameKind, sameRole, sameMark, markWithin, roleWithin, kindWithin, KindIn, RoleIn}
-use Rattle.rules.specs.Pairs.{pairOf, samePair, numberOf, hasPair}
-use Rattle.rules.specs.RuleSet.{RuleSet, noRules, sameRule, ruleWithin, RuleIn, hasRoom, withPair, pairsWith, gained, Proper}
+use Rattle.rules.specs.Pairs.{pairOf, samePair, numberOf, hasPair, withPair}
+use Rattle.rules.specs.RuleSet.{RuleSet, noRules, sameRule, ruleWithin, RuleIn, hasRoom, pairsWith, gained, Proper}
 use Rattle.rules.specs.declared.pair.Pair.{Pair}
 use Rattle.rules.proofs.Marked.{T-true, true-T, kind-self, role-self, mark-self, kind-eq, role-eq, mark-eq, turn-turn, turned-within, same-turned, rule-in}
 use Rattle.rules.proofs.Numbered.{pair-self, pair-eq, number-in, nth-push, with-number, with-has, with-length, with-other}

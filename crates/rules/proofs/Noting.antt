@@ -19,8 +19,8 @@ use Rattle.league.specs.declared.rules.Rule.the-variants.{Inclusion, Exclusion,
 use Rattle.rules.specs.Flags.{flag}
 use Rattle.rules.specs.Marks.{sameKind, sameRole, sameMark, markWithin, roleWithin, kindWithin, markCode}
 use Rattle.rules.specs.Noted.{noted, ruleSetOf}
-use Rattle.rules.specs.Pairs.{pairOf, samePair, numberOf, hasPair}
-use Rattle.rules.specs.RuleSet.{RuleSet, noRules, sameRule, ruleWithin, hasRoom, withPair, pairsWith, gained, Proper}
+use Rattle.rules.specs.Pairs.{pairOf, samePair, numberOf, hasPair, withPair}
+use Rattle.rules.specs.RuleSet.{RuleSet, noRules, sameRule, ruleWithin, hasRoom, pairsWith, gained, Proper}
 use Rattle.rules.specs.declared.pair.Pair.{Pair}
 use Rattle.rules.proofs.Gained.{same-within, or-swap, and-swap, gained-proper}
 use Rattle.rules.proofs.Marked.{role-code, mark-code, same-turned}
@@ -64,7 +64,7 @@ or-assoc true b c = refl
 or-assoc false b c = refl
 
 -- the flags at the codes that a row and a column stand for
-at-codes : (cells after : List (List Bool)) (row column m n : ℕ) → row ≡ m → column ≡ n → More cells after row column → More cells after m n
+pub at-codes : (cells after : List (List Bool)) (row column m n : ℕ) → row ≡ m → column ≡ n → More cells after row column → More cells after m n
 at-codes cells after row column m n e f h i j = rw (e, f) at (h i j)
 
 module _ (inc exc req rol : List (List Bool)) (ps : List Pair) where
@@ -87,10 +87,11 @@ module _ (inc exc req rol : List (List Bool)) (ps : List Pair) where
       each (Required D S m) = refl
       each (RoleInclusion S U) = refl
 
-  pub gain-exclusion : (B C : Mark) (mid after : List (List Bool)) → markWithin B ≡ true → markWithin C ≡ true
-      → More exc mid (markCode B) (markCode C) → More mid after (markCode C) (markCode B)
+  pub gain-exclusion : (B C : Mark) (after : List (List Bool)) → markWithin B ≡ true → markWithin C ≡ true
+      → ((i j : ℕ)
+      → flag after i j ≡ ((eqb i (markCode C) && eqb j (markCode B)) || ((eqb i (markCode B) && eqb j (markCode C)) || flag exc i j)))
       → ruleSetOf inc after req rol ps ≡ gained (ruleSetOf inc exc req rol ps) (Exclusion B C)
-  gain-exclusion B C mid after v w h g =
+  gain-exclusion B C after v w h =
       same-sets (λ r. ruleWithin r && noted inc after req rol ps r)
       (λ r. sameRule (Exclusion B C) r || (ruleWithin r && noted inc exc req rol ps r)) ps ps each refl
     where
@@ -101,7 +102,7 @@ module _ (inc exc req rol : List (List Bool)) (ps : List Pair) where
           let two = eqb (markCode D) (markCode C) && eqb (markCode E) (markCode B) in
           let f = flag exc (markCode D) (markCode E) in
           let s : flag after (markCode D) (markCode E) ≡ ((two || one) || f) =
-          g (markCode D) (markCode E) ∙ (ap (λ (b : Bool). two || b) (h (markCode D) (markCode E)) ∙ or-assoc two one f) in
+          h (markCode D) (markCode E) ∙ or-assoc two one f in
           ap (λ (b : Bool). ruleWithin (Exclusion D E) && b) s
           ∙ cell-more (ruleWithin (Exclusion D E)) (two || one) (sameRule (Exclusion B C) (Exclusion D E)) f
           (λ u.
@@ -113,10 +114,11 @@ module _ (inc exc req rol : List (List Bool)) (ps : List Pair) where
       each (Required D S m) = refl
       each (RoleInclusion S U) = refl
 
-  pub gain-role : (Q R : Role) (mid after : List (List Bool)) → roleWithin Q ≡ true → roleWithin R ≡ true
-      → More rol mid (code Q) (code R) → More mid after (code (inverse Q)) (code (inverse R))
+  pub gain-role : (Q R : Role) (after : List (List Bool)) → roleWithin Q ≡ true → roleWithin R ≡ true
+      → ((i j : ℕ)
+      → flag after i j ≡ ((eqb i (code (inverse Q)) && eqb j (code (inverse R))) || ((eqb i (code Q) && eqb j (code R)) || flag rol i j)))
       → ruleSetOf inc exc req after ps ≡ gained (ruleSetOf inc exc req rol ps) (RoleInclusion Q R)
-  gain-role Q R mid after v w h g =
+  gain-role Q R after v w h =
       same-sets (λ r. ruleWithin r && noted inc exc req after ps r)
       (λ r. sameRule (RoleInclusion Q R) r || (ruleWithin r && noted inc exc req rol ps r)) ps ps each refl
     where
@@ -129,7 +131,7 @@ module _ (inc exc req rol : List (List Bool)) (ps : List Pair) where
           let two = eqb (code S) (code (inverse Q)) && eqb (code U) (code (inverse R)) in
           let f = flag rol (code S) (code U) in
           let s : flag after (code S) (code U) ≡ ((two || one) || f) =
-          g (code S) (code U) ∙ (ap (λ (b : Bool). two || b) (h (code S) (code U)) ∙ or-assoc two one f) in
+          h (code S) (code U) ∙ or-assoc two one f in
           ap (λ (b : Bool). ruleWithin (RoleInclusion S U) && b) s
           ∙ cell-more (ruleWithin (RoleInclusion S U)) (two || one) (sameRule (RoleInclusion Q R) (RoleInclusion S U)) f
           (λ u.

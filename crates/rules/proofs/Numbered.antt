@@ -9,12 +9,15 @@ use lib.Dec.{eqb, ltb}
 use lib.ListN.{length}
 use Rattle.std.specs.shelf.Maps.{nth}
 use Rattle.std.specs.declared.option.Option.the-variants.{Some, None}
+use Rattle.std.specs.declared.result.Result.{Result}
+use Rattle.std.specs.declared.result.Result.the-variants.{Ok, Err}
+use Rattle.league.specs.declared.faults.BookFault.{BookFault}
+use Rattle.league.specs.declared.faults.BookFault.the-variants.{Pairs as NoRoom}
 use Rattle.std.proofs.shelf.Lists.{length-push}
 use Rattle.std.proofs.shelf.Tests.{cases-bool, and-parts, and-from, lt-ltb, ltb-true, ltb-false, le-ltb, cond-true, cond-false}
 use Rattle.std.proofs.shelf.Ways.{tells}
 use Rattle.rules.specs.Marks.{sameKind, sameRole}
-use Rattle.rules.specs.Pairs.{samePair, numberOf, hasPair}
-use Rattle.rules.specs.RuleSet.{withPair}
+use Rattle.rules.specs.Pairs.{samePair, numberOf, hasPair, withPair}
 use Rattle.rules.specs.declared.pair.Pair.{Pair}
 use Rattle.rules.proofs.Marked.{kind-self, role-self, kind-eq, role-eq}
 
@@ -137,3 +140,14 @@ module _ (ps : List Pair) (p : Pair) where
       rw (number-push-out p ps o d l, length-push ps p) (le-ltb (length ps + 1) (length ps + 1) m ∙ sym f))
       (cases-bool (hasPair ps o))))
       (cases-bool (hasPair ps p))
+
+-- a number that was given out: there was room, and it is the pair's number
+module _ (room : Bool) (n m : ℕ) (e : _≡_ {A = Result ℕ BookFault} (Ok n) (cond room (Ok m) (Err NoRoom))) where
+  pub taken : room ≡ true
+  taken = ⊎-elim (λ t. t) (λ f. let k : _≡_ {A = Result ℕ BookFault} (Ok n) (Err NoRoom) = rw f at e in cc) (cases-bool room)
+
+  pub taken-number : n ≡ m
+  taken-number = let k : _≡_ {A = Result ℕ BookFault} (Ok n) (Ok m) = rw taken at e in cc
+
+pub taken-pairs : (room : Bool) (ps qs rs : List Pair) → ps ≡ cond room qs rs → room ≡ true → ps ≡ qs
+taken-pairs room ps qs rs e t = rw t at e

@@ -1,6 +1,6 @@
 -- The pairs of a role and a kind that required-partner rules use, in order of first use.
-use mathlib.Core.Bool.{Bool, cond, _&&_}
-use mathlib.Core.List.{List, [], _∷_}
+use mathlib.Core.Bool.{Bool, cond, _&&_, _||_}
+use mathlib.Core.List.{List, [], _∷_, _++_}
 use Prim.Native.Nat.{ℕ, suc}
 use lib.Dec.{ltb}
 use lib.ListN.{length, take}
@@ -29,3 +29,11 @@ hasPair ps p = ltb (numberOf ps p) (length ps)
 -- the pairs in use: the first of the places
 abbrev pub inUse : List Pair → ℕ → List Pair
 inUse places count = take count places
+
+-- there is room for the pair: it is in use already, or fewer than 32 are
+abbrev pub fits : List Pair → Pair → Bool
+fits ps p = hasPair ps p || ltb (length ps) 32
+
+-- the pairs once the pair is used: a new one comes last
+abbrev pub withPair : List Pair → Pair → List Pair
+withPair ps p = cond (hasPair ps p) ps (ps ++ (p ∷ []))

@@ -1,9 +1,9 @@
 -- What a rule table holds, what it replies to a rule, and what it then holds.
 use mathlib.Core.Path.{_≡_}
 use mathlib.Core.Bool.{Bool, true, false, cond, _&&_, _||_}
-use mathlib.Core.List.{List, [], _∷_, _++_}
+use mathlib.Core.List.{List, []}
 use Prim.Native.Nat.{ℕ, _≤_, _<_}
-use lib.Dec.{T, ltb}
+use lib.Dec.{T}
 use lib.ListN.{length}
 use Rattle.std.specs.Options.{orOther}
 use Rattle.std.specs.shelf.Maps.{nth}
@@ -23,7 +23,7 @@ use Rattle.league.specs.declared.roles.Mark.the-variants.{Is, Has}
 use Rattle.league.specs.declared.rules.Rule.{Rule}
 use Rattle.league.specs.declared.rules.Rule.the-variants.{Inclusion, Exclusion, Required, RoleInclusion}
 use Rattle.rules.specs.Marks.{sameKind, sameRole, sameMark, kindWithin, roleWithin, markWithin, KindIn, RoleIn, MarkIn}
-use Rattle.rules.specs.Pairs.{pairOf, numberOf, hasPair}
+use Rattle.rules.specs.Pairs.{pairOf, numberOf, fits, withPair}
 use Rattle.rules.specs.declared.pair.Pair.{Pair}
 
 -- the accepted rules, in each of their spellings, and the pairs that they use, in order of first use
@@ -89,11 +89,11 @@ RuleIn (Exclusion B C) = MarkIn B × MarkIn C
 RuleIn (Required B R k) = MarkIn B × RoleIn R × KindIn k
 RuleIn (RoleInclusion R S) = RoleIn R × RoleIn S
 
--- a rule that uses a pair finds room for it: the pair is in use already, or fewer than 32 are
+-- a rule that uses a pair finds room for it
 abbrev pub hasRoom : List Pair → Rule → Bool
 hasRoom ps (Inclusion B C) = true
 hasRoom ps (Exclusion B C) = true
-hasRoom ps (Required B R k) = hasPair ps (pairOf R k) || ltb (length ps) 32
+hasRoom ps (Required B R k) = fits ps (pairOf R k)
 hasRoom ps (RoleInclusion R S) = true
 
 -- the fault where there is one, else the reply
@@ -106,10 +106,6 @@ unless (Some fault) reply = Err fault
 abbrev pub ruleReply : RuleSet → Rule → Result Entry BookFault
 ruleReply s r =
     unless (ruleFault r) (cond (s .rules r) (Ok Known) (cond (hasRoom (s .pairs) r) (Ok New) (Err book.Pairs)))
-
--- the pairs once the pair is used: a new one comes last
-abbrev pub withPair : List Pair → Pair → List Pair
-withPair ps p = cond (hasPair ps p) ps (ps ++ (p ∷ []))
 
 -- the pairs once the rule is accepted
 abbrev pub pairsWith : List Pair → Rule → List Pair

@@ -4,4 +4,4 @@ use Rattle.rules.proofs.pairs.PairList.len.Needs as need
 pub returns : need.returns
 returns c =
     let t = c .args .self .now in
-    length-in-use (t .places) (t .count) (t .few) (t .sized)
+    record { counts = length-in-use (t .places) (t .count) (t .few) (t .sized); few = t .few }
