@@ -1,8 +1,8 @@
-//! What a line can ask for.
+//! The calls that a register takes.
 use league::facts::Fact;
 use league::rules::Rule;
 
-/// A call that a line means.
+/// One call on a register.
 #[derive(Clone, Copy)]
 pub enum Call {
     EnterFact(Fact),

@@ -1,0 +1,7 @@
+pub mod Flags
+pub mod Follows
+pub mod Marks
+pub mod Noted
+pub mod Pairs
+pub mod RuleSet
+pub mod Tables

@@ -1,0 +1,7 @@
+//! The rules of a register: which were accepted, and the pairs that they use.
+pub mod entries;
+mod flags;
+pub mod pair;
+mod pairs;
+mod ranges;
+pub mod table;
