@@ -26,7 +26,10 @@ impl<S: Store> Register<S> {
         ensures store { λ r. ⌜ r .store ≡ store ⌝ }
         ensures rules { λ r. ⌜ ruleSet (r .rules) ≡ noRules ⌝ }
     {
-        Register { store, rules: RuleTable::new() }
+        Register {
+            store,
+            rules: RuleTable::new(),
+        }
     }
 
     /// How many names there are.

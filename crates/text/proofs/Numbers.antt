@@ -20,5 +20,5 @@ digits-few n h = length-decimal-le 20 n (omega arith) (omega arith) h
 
 -- pieces that were written one after the other, as one line
 pub regroup : (p a b c d : List ℕ) (s t : ℕ)
-  → (p ++ a ++ (s ∷ []) ++ b ++ (s ∷ []) ++ c ++ (s ∷ []) ++ d ++ (t ∷ [])) ≡ p ++ (a ++ (s ∷ (b ++ (s ∷ (c ++ (s ∷ (d ++ (t ∷ []))))))))
+    → (p ++ a ++ (s ∷ []) ++ b ++ (s ∷ []) ++ c ++ (s ∷ []) ++ d ++ (t ∷ [])) ≡ p ++ (a ++ (s ∷ (b ++ (s ∷ (c ++ (s ∷ (d ++ (t ∷ []))))))))
 regroup p a b c d s t = simp append-assoc

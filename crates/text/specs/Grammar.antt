@@ -11,8 +11,8 @@ use Rattle.league.specs.declared.facts.Kind.{Kind}
 use Rattle.league.specs.declared.roles.Mark.{Mark}
 use Rattle.league.specs.declared.roles.Role.{Role}
 use Rattle.league.specs.declared.rules.Rule.the-variants as rule
-use Rattle.text.specs.declared.calls.Call.{Call}
-use Rattle.text.specs.declared.calls.Call.the-variants.{EnterFact, EnterRule}
+use Rattle.certain.specs.declared.calls.Call.{Call}
+use Rattle.certain.specs.declared.calls.Call.the-variants.{EnterFact, EnterRule}
 use Rattle.text.specs.declared.faults.Unreadable.{Unreadable}
 use Rattle.text.specs.declared.forms.Letter.{Letter}
 use Rattle.text.specs.Lines.{Bytes}

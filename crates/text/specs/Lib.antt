@@ -3,4 +3,5 @@ pub mod Format
 pub mod Forms
 pub mod Grammar
 pub mod Lines
+pub mod Pages
 pub mod Tokens

@@ -1,9 +1,10 @@
 //! Lines of text: what a line means, what is printed of each, and the run over a whole text.
-pub mod calls;
 pub mod faults;
 pub mod fields;
 pub mod forms;
 pub mod output;
+pub mod page;
+pub mod printing;
 pub mod reader;
 pub mod render;
 pub mod scan;
