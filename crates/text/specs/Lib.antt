@@ -4,4 +4,5 @@ pub mod Forms
 pub mod Grammar
 pub mod Lines
 pub mod Pages
+pub mod Runs
 pub mod Tokens

@@ -5,6 +5,10 @@ use Prim.Native.Nat.{ℕ, _+_, _-_}
 use lib.Dec.{ltb, leb}
 use lib.ListN.{length, take, drop}
 use Rattle.std.specs.shelf.Lists.{joined}
+use Rattle.std.specs.declared.result.Result.{Result}
+use Rattle.std.specs.declared.result.Result.the-variants.{Ok, Err}
+use Rattle.league.specs.declared.faults.BookFault.{BookFault}
+use Rattle.league.specs.declared.faults.BookFault.the-variants as book
 use Rattle.text.specs.Lines.{Bytes}
 
 pub record Page : Type 0 where
@@ -42,3 +46,7 @@ kept room (l ∷ ls) = cond (leb (length l) room) (l ∷ kept (room - length l) 
 -- the lines one after the other
 abbrev pub together : List Bytes → Bytes
 together ls = joined (λ l. l) ls
+
+-- the number of bytes written, or refusal 10 where a line was left out
+abbrev pub result : Page → Result ℕ BookFault
+result p = cond (p .full) (Err book.Page) (Ok (p .written))

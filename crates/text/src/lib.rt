@@ -7,6 +7,7 @@ pub mod page;
 pub mod printing;
 pub mod reader;
 pub mod render;
+pub mod runs;
 pub mod scan;
 pub mod tokens;
 mod writer;

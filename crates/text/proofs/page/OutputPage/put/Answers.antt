@@ -6,7 +6,7 @@ use Rattle.text.proofs.page.OutputPage.put.Needs as need
 
 pub loop-i-holds : need.loop-i-holds
 loop-i-holds c =
-    (refl, refl, refl, sym (pasted-none (c .args .self .now .bytes .now) (c .args .self .now .written) (c .args .line .now .bytes)))
+    (refl, refl, refl, refl, sym (pasted-none (c .args .self .now .bytes .now) (c .args .self .now .written) (c .args .line .now .bytes)))
 
 pub loop-i-again : need.loop-i-again
 loop-i-again c =
@@ -14,6 +14,7 @@ loop-i-again c =
     let inv = x .inv in (
       inv .0,
       inv .1,
-      length-set _ _ _ ∙ inv .2,
-      rw (inv .3, inv .0) (pasted-more (c .args .self .now .bytes .now) (c .args .self .now .written) (c .args .line .now .bytes) (x .i) (omega arith) (omega arith)),
+      inv .2,
+      length-set _ _ _ ∙ inv .3,
+      rw (inv .4, inv .1) (pasted-more (c .args .self .now .bytes .now) (c .args .self .now .written) (c .args .line .now .bytes) (x .i) (omega arith) (omega arith)),
     )
