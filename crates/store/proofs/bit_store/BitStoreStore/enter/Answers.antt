@@ -53,6 +53,6 @@ returns-in-New c =
     let n = new-reply (means s) (c .args .fact) a in
     let h = held-set (s .names) (s .bytes .now) (c .args .fact) (n .range) (s .room) in
     record {
-      answers = ap Ok (c .in-New .is) ∙ sym a;
+      answers = cc (a, c .in-New .is);
       holds = ap (heldBits (s .names)) (bytes-are (need.at·returns-in-New c .After-with-bit)) ∙ (h ∙ sym (after-new (means s) (c .args .fact) a));
     }
