@@ -2,7 +2,7 @@
 use mathlib.Core.Path.{_≡_, refl, sym, ap, _∙_, fun-ext}
 use mathlib.Core.Bool.{Bool, true, false}
 use mathlib.Core.Logic.{⊎-elim}
-use mathlib.Core.List.{List, _++_}
+use mathlib.Core.List.{List}
 use Prim.Native.Nat.{ℕ, _+_, _*_, _/_, _%_, _^_, _<_, _≤_}
 use native.Mathlib.Omega.{arith}
 use native.Mathlib.Nat.{zero-div}
@@ -13,7 +13,7 @@ use Rattle.std.proofs.shelf.Ways.{tells}
 use Rattle.league.specs.declared.facts.Fact.{Fact}
 use Rattle.league.specs.Facts.{same, plus, countOf, within}
 use Rattle.league.proofs.Counts.{count-gain, count-none, same-eq}
-use Rattle.store.specs.Holding.{Holding, gain, opened}
+use Rattle.store.specs.Holding.{gain, opened}
 use Rattle.store.specs.Bits.{placeOf, isSet, withBit, setBit, cleared, sizeOf, bitLimit, namesOver, marked, heldBits}
 use Rattle.store.proofs.BitsSet.{set-here, set-there}
 use Rattle.store.proofs.BitsPlaced.{place-same, place-below}
@@ -47,10 +47,14 @@ held-set n xs f w l =
     ap (λ (s : Fact → Bool). record { names = n; limit = bitLimit n; facts = s }) (marked-set n xs f w l)
 
 -- one more is counted where the fact is new
-pub tally-set : (n : ℕ) (xs : List ℕ) (f : Fact) (k : ℕ) → within n f ≡ true → sizeOf n ≤ length xs → marked n xs f ≡ false
+pub counted-set : (n : ℕ) (xs : List ℕ) (f : Fact) (k : ℕ) → within n f ≡ true → sizeOf n ≤ length xs → marked n xs f ≡ false
     → k ≡ countOf n (marked n xs) → k + 1 ≡ countOf n (marked n (setBit xs (placeOf n f)))
-tally-set n xs f k w l e t =
+counted-set n xs f k w l e t =
     ap (λ (x : ℕ). x + 1) t ∙ (sym (count-gain n (marked n xs) f w e) ∙ ap (countOf n) (sym (marked-set n xs f w l)))
+
+-- the bytes as the program writes a bit of them
+pub written : (xs : List ℕ) (i p byte : ℕ) → i ≡ p → byte ≡ withBit (getD xs (i / 8) 0) (i % 8) → set xs (i / 8) byte ≡ setBit xs p
+written xs i p byte e b = rw (b, e) refl
 
 -- a cleared byte is 0
 cleared-at : (n : ℕ) (xs : List ℕ) (k : ℕ) → k < n → getD (cleared n xs) k 0 ≡ 0
@@ -72,8 +76,8 @@ pub held-cleared : (n : ℕ) (xs : List ℕ) → heldBits n (cleared (sizeOf n) 
 held-cleared n xs =
     ap (λ (s : Fact → Bool). record { names = n; limit = bitLimit n; facts = s }) (marked-cleared n xs)
 
-pub tally-cleared : (n : ℕ) (xs : List ℕ) → 0 ≡ countOf n (marked n (cleared (sizeOf n) xs))
-tally-cleared n xs = sym (ap (countOf n) (marked-cleared n xs) ∙ count-none n)
+pub counted-cleared : (n : ℕ) (xs : List ℕ) → 0 ≡ countOf n (marked n (cleared (sizeOf n) xs))
+counted-cleared n xs = sym (ap (countOf n) (marked-cleared n xs) ∙ count-none n)
 
 -- a store has at most 1,024 names, and bytes enough for their bits
 pub over-few : (xs : List ℕ) (asked : ℕ) → namesOver xs asked ≤ 1024
@@ -81,7 +85,3 @@ over-few xs asked = grind (arith, tells)
 
 pub over-room : (xs : List ℕ) (asked : ℕ) → sizeOf (namesOver xs asked) ≤ length xs
 over-room xs asked = grind (arith, tells)
-
--- the bytes as the program writes a bit of them
-pub written : (xs : List ℕ) (i p byte : ℕ) → i ≡ p → byte ≡ withBit (getD xs (i / 8) 0) (i % 8) → set xs (i / 8) byte ≡ setBit xs p
-written xs i p byte e b = rw (b, e) refl

@@ -1,9 +1,8 @@
 -- The places of facts: two facts have two places, and each place is within the bytes of the store.
-use mathlib.Core.Path.{_≡_, refl, sym, ap, _∙_}
+use mathlib.Core.Path.{_≡_, sym, ap, _∙_}
 use mathlib.Core.Bool.{true, _&&_}
-use Prim.Native.Nat.{ℕ, _+_, _*_, _/_, _%_, _<_, _≤_}
+use Prim.Native.Nat.{ℕ, _+_, _*_, _/_, _%_, _<_}
 use native.Mathlib.Omega.{arith}
-use native.Mathlib.Nat.{mul-comm}
 use lib.Dec.{ltb}
 use Rattle.std.proofs.shelf.Bits.{mul-add-lt, div-mul-add, mod-mul-add}
 use Rattle.std.proofs.shelf.Tests.{and-parts, and-from, ltb-true, eq-eqb}
@@ -29,11 +28,11 @@ pub link-bit : (n : ℕ) (l : Link) (a b : Name) → placeOf n (Joins l a b) % 8
 link-bit n l a b = omega arith
 
 -- what it says of the numbers of a fact that it can be stated
-pub record KindRange (n k a : ℕ) : Type 0 where
+record KindRange (n k a : ℕ) : Type 0 where
   pub kind : k < 64
   pub name : a < n
 
-pub record LinkRange (n l a b : ℕ) : Type 0 where
+record LinkRange (n l a b : ℕ) : Type 0 where
   pub link : l < 32
   pub from : a < n
   pub to : b < n

@@ -25,7 +25,7 @@ isSet xs i = eqb (getD xs (i / 8) 0 / 2 ^ (i % 8) % 2) 1
 abbrev pub withBit : ℕ → ℕ → ℕ
 withBit byte i = bitOr byte (2 ^ i)
 
--- the bytes with bit i set, and the others as they were
+-- the bytes with bit i set, and all other bits as they were
 abbrev pub setBit : List ℕ → ℕ → List ℕ
 setBit xs i = set xs (i / 8) (withBit (getD xs (i / 8) 0) (i % 8))
 
@@ -33,11 +33,11 @@ setBit xs i = set xs (i / 8) (withBit (getD xs (i / 8) 0) (i % 8))
 abbrev pub cleared : ℕ → List ℕ → List ℕ
 cleared n xs = replicate n 0 ++ drop n xs
 
--- how many bytes the bits over n names take: 8 for the kinds of each name, 4 for the links of each two
+-- how many bytes the bits over n names take: 8 for the kinds of each name, 4 for the links from each name to each
 abbrev pub sizeOf : ℕ → ℕ
 sizeOf n = 8 * n + 4 * (n * n)
 
--- how many facts can be stated over n names, and so be held: 64 kinds of each name, 32 links of each two
+-- how many facts can be stated over n names, and so be held: 64 kinds of each name, 32 links from each name to each
 abbrev pub bitLimit : ℕ → ℕ
 bitLimit n = 64 * n + 32 * (n * n)
 

@@ -13,5 +13,5 @@ pub struct BitStore<'a> {
     pub(crate) bytes: &'a mut [u8],
     ghost few: { names ≤ 1024 },
     ghost room: { sizeOf names ≤ length (bytes .now) },
-    ghost tally: { count ≡ countOf names (marked names (bytes .now)) },
+    ghost counted: { count ≡ countOf names (marked names (bytes .now)) },
 }

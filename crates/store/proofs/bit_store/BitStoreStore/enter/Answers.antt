@@ -10,7 +10,7 @@ use Rattle.store.specs.Holding.{Holding, reply}
 use Rattle.store.specs.Bits.{placeOf, setBit, marked, heldBits}
 use Rattle.store.specs.declared.bits.BitStore.{BitStore}
 use Rattle.store.proofs.Admitted.{new-reply, after-new, was-new}
-use Rattle.store.proofs.BitsHeld.{place-byte, written, held-set, tally-set}
+use Rattle.store.proofs.BitsHeld.{place-byte, written, held-set, counted-set}
 use Rattle.store.proofs.bit_store.BitStoreStore.enter.Needs as need
 use Rattle.store.proofs.bit_store.BitStoreStore.enter.Needs.{In-New, After-with-bit}
 
@@ -30,7 +30,8 @@ has-byte c =
     place-byte (s .names) (s .bytes .now) (c .args .fact) (new-reply (means s) (c .args .fact) (answered-new c) .range) (s .room)
 
 -- what is written sets the fact's bit
-bytes-are : (c : After-with-bit) → set (c .args .self .now .bytes .now) (c .place-bit .result / 8) (c .with-bit .result) ≡ setBit (c .args .self .now .bytes .now) (placeOf (c .args .self .now .names) (c .args .fact))
+bytes-are : (c : After-with-bit) → set (c .args .self .now .bytes .now) (c .place-bit .result / 8) (c .with-bit .result)
+    ≡ setBit (c .args .self .now .bytes .now) (placeOf (c .args .self .now .names) (c .args .fact))
 bytes-are c = written _ _ _ _ (c .place-bit .ensures) (c .with-bit .ensures)
 
 pub index-self-bit : need.index-self-bit
@@ -43,7 +44,7 @@ pub ghost-self : need.ghost-self
 ghost-self c =
     let s = c .args .self .now in
     let n = new-reply (means s) (c .args .fact) (answered-new (need.at·ghost-self c .In-New)) in
-    let t = tally-set (s .names) (s .bytes .now) (c .args .fact) (s .count) (n .range) (s .room) (n .fresh) (s .tally) in
+    let t = counted-set (s .names) (s .bytes .now) (c .args .fact) (s .count) (n .range) (s .room) (n .fresh) (s .counted) in
     (s .few, (rw length-set (s .room), (t ∙ ap (λ (xs : List ℕ). countOf (s .names) (marked (s .names) xs)) (sym (bytes-are c)), tt)))
 
 pub returns-in-New : need.returns-in-New

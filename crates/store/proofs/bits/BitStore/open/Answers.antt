@@ -6,7 +6,7 @@ use lib.ListN.{length}
 use Rattle.league.specs.Facts.{countOf}
 use Rattle.store.specs.Bits.{cleared, sizeOf, bitLimit, namesOver, marked, heldBits}
 use Rattle.store.specs.Holding.{opened}
-use Rattle.store.proofs.BitsHeld.{over-few, over-room, held-cleared, tally-cleared}
+use Rattle.store.proofs.BitsHeld.{over-few, over-room, held-cleared, counted-cleared}
 use Rattle.store.proofs.bits.BitStore.open.Needs as need
 use Rattle.store.proofs.bits.BitStore.open.Needs.{After-clear}
 
@@ -27,7 +27,7 @@ ghost-result c =
       omega (arith, over-few (c .args .bytes .now) (c .args .names)),
       (
         omega (arith, bytes-enough (need.at·ghost-result c .After-clear)),
-        (tally-cleared n (c .args .bytes .now) ∙ ap (λ (xs : List ℕ). countOf n (marked n xs)) (sym b), tt),
+        (counted-cleared n (c .args .bytes .now) ∙ ap (λ (xs : List ℕ). countOf n (marked n xs)) (sym b), tt),
       ),
     )
 
