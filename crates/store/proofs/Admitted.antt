@@ -12,7 +12,7 @@ use Rattle.league.specs.declared.facts.Fact.the-variants.{Is, Joins}
 use Rattle.league.specs.declared.facts.Entry.{Entry}
 use Rattle.league.specs.declared.facts.Entry.the-variants.{New, Known}
 use Rattle.league.specs.Facts.{within}
-use Rattle.store.specs.Holding.{Holding, admitted, reply, after, gain, count}
+use Rattle.store.specs.Holding.{Holding, faultIn, admitted, reply, after, gain, count}
 
 -- it can be stated over the names, it is not known, and there is room
 pub record Admission (n : ℕ) (f : Fact) (known room : Bool) : Type 0 where
@@ -37,3 +37,8 @@ pub was-new : (h : Holding) (f : Fact) (known : Bool) (n limit : ℕ) (e : Entry
 was-new h f known n limit e p q r a s =
     let t : admitted (h .names) f known (ltb n limit) ≡ reply h f = rw (p, q, r) refl in
     sym t ∙ (sym a ∙ ap Ok s)
+
+-- where no number is at fault the fact can be stated
+pub range-within : (n : ℕ) (f : Fact) → faultIn n f ≡ Ok tt → within n f ≡ true
+range-within n (Is k a) e = grind (arith, tells)
+range-within n (Joins l a b) e = grind (arith, tells)

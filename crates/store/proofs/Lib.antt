@@ -1,1 +1,4 @@
 pub mod Admitted
+pub mod BitsHeld
+pub mod BitsPlaced
+pub mod BitsSet
