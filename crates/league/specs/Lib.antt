@@ -1,2 +1,4 @@
 pub mod Faults
+pub mod Questions
 pub mod Roles
+pub mod Worlds
