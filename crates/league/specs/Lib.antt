@@ -1,4 +1,6 @@
 pub mod Faults
+pub mod Filling
 pub mod Questions
 pub mod Roles
+pub mod Terms
 pub mod Worlds

@@ -1,6 +1,7 @@
 //! The subject: names, kinds and links, the facts, rules and questions over them, and why a call is refused.
 pub mod facts;
 pub mod faults;
+mod numbers;
 pub mod questions;
 pub mod roles;
 pub mod rules;
