@@ -1,4 +1,5 @@
 //! The subject: names, kinds and links, the facts, rules and questions over them, and why a call is refused.
+mod cover;
 pub mod facts;
 pub mod faults;
 mod numbers;
