@@ -6,3 +6,4 @@ mod numbers;
 pub mod questions;
 pub mod roles;
 pub mod rules;
+mod terms;
