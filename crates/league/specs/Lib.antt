@@ -1,3 +1,4 @@
+pub mod Asked
 pub mod Faults
 pub mod Filling
 pub mod Questions

@@ -2,7 +2,9 @@
 mod cover;
 pub mod facts;
 pub mod faults;
+pub mod filling;
 mod numbers;
+pub mod question;
 pub mod questions;
 pub mod roles;
 pub mod rules;
