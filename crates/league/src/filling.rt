@@ -5,6 +5,7 @@ ghost use Prim.Native.Nat.{ℕ, _≤_};
 ghost use lib.ListN.{length, take};
 ghost use Rattle.std.specs.Results.{Cases};
 ghost use Rattle.league.specs.Filling.{filling};
+ghost use Rattle.league.specs.Proper.{Proper};
 ghost use Rattle.league.specs.Terms.{termsOf, TermsInOrder};
 ghost use Rattle.league.specs.Asked.{atomsOf, freshAtom, Filled};
 use crate::cover::covers;
@@ -79,16 +80,18 @@ impl Question {
         self.answers
     }
 
-    /// The atoms, in the order in which they were filled in.
+    /// The atoms, in the order in which they were filled in: one to sixteen, in range, with every answer variable.
     pub fn atoms(&self) -> &[Atom]
-        ensures { λ r. ⌜ now r ≡ atomsOf (now (self .entry)) ⌝ }
+        ensures own { λ r. ⌜ now r ≡ atomsOf (now (self .entry)) ⌝ }
+        ensures proper { λ _. ⌜ Proper (now (self .entry) .answers) (atomsOf (now (self .entry))) ⌝ }
     {
         &self.atoms[0..self.count]
     }
 
     /// The terms of the atoms, each once: variables rising, then names rising.
     pub fn terms(&self) -> &[Term]
-        ensures { λ r. ⌜ now r ≡ termsOf (atomsOf (now (self .entry))) ⌝ }
+        ensures own { λ r. ⌜ now r ≡ termsOf (atomsOf (now (self .entry))) ⌝ }
+        ensures ordered { λ _. ⌜ TermsInOrder (atomsOf (now (self .entry))) (termsOf (atomsOf (now (self .entry)))) ⌝ }
     {
         &self.terms[0..self.width]
     }
