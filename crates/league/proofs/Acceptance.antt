@@ -67,8 +67,8 @@ each-covered zero atoms e v h = absurd (omega arith)
 each-covered (suc k) atoms e v h =
     let q = and-parts (covered k atoms) (mentioned k atoms) e
     in ⊎-elim (each-covered k atoms (q .0) v)
-      (λ l. let same : k ≡ v = omega arith in let P : ℕ → Type 0 = λ n. InSome (Term.Variable n) atoms in subst P same (in-some k atoms (q .1)))
-      (cases-lt v k)
+    (λ l. let same : k ≡ v = omega arith in let P : ℕ → Type 0 = λ n. InSome (Term.Variable n) atoms in subst P same (in-some k atoms (q .1)))
+    (cases-lt v k)
 
 pub accepted-proper : (k : ℕ) (atoms : List Atom) → isOk (filling k atoms) ≡ true → Proper k atoms
 accepted-proper k atoms e =
@@ -78,11 +78,11 @@ accepted-proper k atoms e =
     in let d = passed (termsChecked atoms) (answersChecked k atoms) (c .1)
     in let counts = or-parts (ltb 4 k) (eqb (length atoms) 0) (unrefused _ _ (a .0))
     in let nonempty = eqb-false (length atoms) 0 (counts .1)
-    in record
-      { few = ltb-false 4 k (counts .0)
-      ; some = omega (arith, nonempty)
-      ; short = ltb-false 16 (length atoms) (unrefused _ _ (b .0))
-      ; ranged = all-ranged 2 atoms (c .0)
-      ; narrow = ltb-false 8 (length (termsOf atoms)) (unrefused _ _ (d .0))
-      ; answered = each-covered k atoms (not-false (covered k atoms) (unrefused _ _ (d .1)))
-      }
+    in record {
+      few = ltb-false 4 k (counts .0);
+      some = omega (arith, nonempty);
+      short = ltb-false 16 (length atoms) (unrefused _ _ (b .0));
+      ranged = all-ranged 2 atoms (c .0);
+      narrow = ltb-false 8 (length (termsOf atoms)) (unrefused _ _ (d .0));
+      answered = each-covered k atoms (not-false (covered k atoms) (unrefused _ _ (d .1)));
+    }

@@ -73,6 +73,20 @@ impl Question {
         Ok(())
     }
 
+    /// The places that atoms stand in.
+    fn filled_atoms(&self) -> &[Atom]
+        ensures { λ r. ⌜ now r ≡ atomsOf (now (self .entry)) ⌝ }
+    {
+        &self.atoms[0..self.count]
+    }
+
+    /// The places that terms stand in.
+    fn filled_terms(&self) -> &[Term]
+        ensures { λ r. ⌜ now r ≡ termsOf (atomsOf (now (self .entry))) ⌝ }
+    {
+        &self.terms[0..self.width]
+    }
+
     /// How many variables, from v0 up, a row answers for.
     pub fn answers(&self) -> u16
         ensures { λ r. ⌜ r ≡ now (self .entry) .answers ⌝ }
@@ -85,7 +99,7 @@ impl Question {
         ensures own { λ r. ⌜ now r ≡ atomsOf (now (self .entry)) ⌝ }
         ensures proper { λ _. ⌜ Proper (now (self .entry) .answers) (atomsOf (now (self .entry))) ⌝ }
     {
-        &self.atoms[0..self.count]
+        self.filled_atoms()
     }
 
     /// The terms of the atoms, each once: variables rising, then names rising.
@@ -93,13 +107,13 @@ impl Question {
         ensures own { λ r. ⌜ now r ≡ termsOf (atomsOf (now (self .entry))) ⌝ }
         ensures ordered { λ _. ⌜ TermsInOrder (atomsOf (now (self .entry))) (termsOf (atomsOf (now (self .entry)))) ⌝ }
     {
-        &self.terms[0..self.width]
+        self.filled_terms()
     }
 
     /// How many terms there are.
     pub fn width(&self) -> usize
         ensures { λ r. ⌜ r ≡ length (termsOf (atomsOf (now (self .entry)))) ⌝ }
     {
-        self.terms().len()
+        self.filled_terms().len()
     }
 }
