@@ -1,15 +1,15 @@
--- A question that filling accepts is proper.
+-- Filling accepts a question exactly when it is proper.
 use mathlib.Core.Path.{_≡_, refl, sym, ap, subst, _∙_}
-use mathlib.Core.Bool.{Bool, true, false, not, _||_, _&&_}
+use mathlib.Core.Bool.{Bool, true, false}
 use mathlib.Core.List.{List, [], _∷_}
 use mathlib.Core.Logic.{_⊎_, inl, inr, ⊎-elim}
-use Prim.Native.Nat.{ℕ, zero, suc, _+_, _<_, _≤_}
+use Prim.Native.Nat.{ℕ, zero, suc, _+_, _<_}
 use native.Mathlib.Omega.{arith}
 use lib.Dec.{eqb, ltb}
 use lib.ListN.{length}
 use Rattle.std.specs.Results.{isOk}
 use Rattle.std.specs.declared.result.Result.the-variants.{Ok, Err}
-use Rattle.std.proofs.shelf.Tests.{ltb-false, eqb-true, eqb-false, not-false, or-parts, or-cases, and-parts, cases-lt}
+use Rattle.std.proofs.shelf.Tests.{ltb-false, le-ltb, eqb-true, eqb-false, eq-eqb, ne-eqb, not-false, not-from-true, or-parts, or-cases, or-from, or-left, or-right, and-parts, and-from, cases-lt}
 use Rattle.league.specs.declared.faults.BookFault.{BookFault}
 use Rattle.league.specs.declared.questions.Term.{Term}
 use Rattle.league.specs.declared.questions.Atom.{Atom}
@@ -70,6 +70,7 @@ each-covered (suc k) atoms e v h =
     (λ l. let same : k ≡ v = omega arith in let P : ℕ → Type 0 = λ n. InSome (Term.Variable n) atoms in subst P same (in-some k atoms (q .1)))
     (cases-lt v k)
 
+-- what filling accepts is proper
 pub accepted-proper : (k : ℕ) (atoms : List Atom) → isOk (filling k atoms) ≡ true → Proper k atoms
 accepted-proper k atoms e =
     let a = passed (countsChecked k atoms) _ e
@@ -86,3 +87,57 @@ accepted-proper k atoms e =
       narrow = ltb-false 8 (length (termsOf atoms)) (unrefused _ _ (d .0));
       answered = each-covered k atoms (not-false (covered k atoms) (unrefused _ _ (d .1)));
     }
+
+-- a check that finds nothing passes
+accepted : (b : Bool) (f : BookFault) → b ≡ false → refusedIf b f ≡ Ok tt
+accepted b f e = ap (λ c. refusedIf c f) e
+
+-- two checks that pass are one
+both-ok : (r s : Checked) → r ≡ Ok tt → s ≡ Ok tt → andThen r s ≡ Ok tt
+both-ok r s e f = ap (λ q. andThen q s) e ∙ f
+
+term-accepted : (p : ℕ) (t : Term) → TermRanged t → termChecked p t ≡ Ok tt
+term-accepted p (Term.Variable v) h = accepted _ _ (le-ltb 7 v h)
+term-accepted p (Term.Name a) h = accepted _ _ (le-ltb 1023 (a .0) h)
+
+atom-accepted : (p : ℕ) (a : Atom) → AtomRanged a → atomChecked p a ≡ Ok tt
+atom-accepted p (Atom.Is k t) h = both-ok _ _ (accepted _ _ (le-ltb 63 (k .0) (h .0))) (term-accepted (p + 1) t (h .1))
+atom-accepted p (Atom.Joins R s t) h =
+    both-ok _ _ (accepted _ _ (le-ltb 31 (linkOf R .0) (h .0)))
+    (both-ok _ _ (term-accepted (p + 1) s (h .1)) (term-accepted (p + 2) t (h .2)))
+
+numbers-accepted : (p : ℕ) (atoms : List Atom) → ((a : Atom) → Among a atoms → AtomRanged a) → numbersChecked p atoms ≡ Ok tt
+numbers-accepted p [] h = refl
+numbers-accepted p (a ∷ atoms) h =
+    both-ok _ _ (atom-accepted p a (h a (inl refl))) (numbers-accepted (p + argumentsOf a) atoms (λ b m. h b (inr m)))
+
+variable-is : (v : ℕ) (t : Term) → Term.Variable v ≡ t → isVariable v t ≡ true
+variable-is v (Term.Variable u) e = let same : u ≡ v = cc in eq-eqb u v same
+variable-is v (Term.Name a) e = let z : _≡_ {A = ℕ} 0 1 = cc in absurd (omega arith)
+
+occurs-mentions : (v : ℕ) (a : Atom) → Occurs (Term.Variable v) a → mentions v a ≡ true
+occurs-mentions v (Atom.Is k t) o = variable-is v t o
+occurs-mentions v (Atom.Joins R s t) o =
+    ⊎-elim (λ e. or-left (isVariable v s) (isVariable v t) (variable-is v s e)) (λ e. or-right (isVariable v s) (isVariable v t) (variable-is v t e)) o
+
+some-mentioned : (v : ℕ) (atoms : List Atom) → InSome (Term.Variable v) atoms → mentioned v atoms ≡ true
+some-mentioned v [] o = absurd (o .1)
+some-mentioned v (a ∷ atoms) o =
+    ⊎-elim (λ e. or-left (mentions v a) (mentioned v atoms) (occurs-mentions v a (subst (Occurs (Term.Variable v)) e (o .2))))
+    (λ m. or-right (mentions v a) (mentioned v atoms) (some-mentioned v atoms (o .0, m, o .2))) (o .1)
+
+all-covered : (k : ℕ) (atoms : List Atom) → ((v : ℕ) → v < k → InSome (Term.Variable v) atoms) → covered k atoms ≡ true
+all-covered zero atoms h = refl
+all-covered (suc k) atoms h =
+    and-from (covered k atoms) (mentioned k atoms) (all-covered k atoms (λ v l. h v (omega arith))) (some-mentioned k atoms (h k (omega arith)))
+
+-- filling accepts what is proper
+pub proper-accepted : (k : ℕ) (atoms : List Atom) → Proper k atoms → filling k atoms ≡ Ok tt
+proper-accepted k atoms p =
+    let few = le-ltb 4 k (p .few)
+    in let some = ne-eqb (length atoms) 0 (λ e. omega (arith, p .some))
+    in both-ok _ _ (accepted _ _ (or-from (ltb 4 k) (eqb (length atoms) 0) few some))
+    (both-ok _ _ (accepted _ _ (le-ltb 16 (length atoms) (p .short)))
+    (both-ok _ _ (numbers-accepted 2 atoms (p .ranged))
+    (both-ok _ _ (accepted _ _ (le-ltb 8 (length (termsOf atoms)) (p .narrow)))
+    (accepted _ _ (not-from-true (covered k atoms) (all-covered k atoms (p .answered)))))))

@@ -1,9 +1,9 @@
 //! Filling a question, and reading its parts.
 ghost use mathlib.Core.Path.{_≡_};
-ghost use mathlib.Core.List.{List, [], _∷_};
-ghost use Prim.Native.Nat.{ℕ, _≤_};
+ghost use mathlib.Core.List.{[], _∷_};
+ghost use Prim.Native.Nat.{_≤_};
 ghost use lib.ListN.{length, take};
-ghost use Rattle.std.specs.Results.{Cases};
+ghost use Rattle.std.specs.declared.result.Result.the-variants.{Ok};
 ghost use Rattle.league.specs.Filling.{filling};
 ghost use Rattle.league.specs.Proper.{Proper};
 ghost use Rattle.league.specs.Terms.{termsOf, TermsInOrder};
@@ -45,9 +45,8 @@ impl Question {
         }
     }
 
-    /// Takes these atoms and this number of answer variables in place of the question's own, or refuses and keeps its own.
-    /// A refusal counts the number of answer variables as argument 1, then the arguments of the atoms.
-    pub fn fill(&mut self, answers: u16, atoms: &[Atom]) -> Result<(), BookFault>
+    /// Takes these atoms and this number of answer variables, if none of the checks refuses them.
+    fn replace(&mut self, answers: u16, atoms: &[Atom]) -> Result<(), BookFault>
         ensures result { λ r. ⌜ r ≡ filling answers (now (atoms .entry)) ⌝ }
         ensures question { λ r. ⌜ Filled answers (now (atoms .entry)) (now (self .entry)) (now (self .exit)) r ⌝ }
     {
@@ -71,6 +70,16 @@ impl Question {
             width,
         };
         Ok(())
+    }
+
+    /// Takes these atoms and this number of answer variables in place of the question's own, or refuses and keeps its own.
+    /// A refusal counts the number of answer variables as argument 1, then the arguments of the atoms.
+    pub fn fill(&mut self, answers: u16, atoms: &[Atom]) -> Result<(), BookFault>
+        ensures result { λ r. ⌜ r ≡ filling answers (now (atoms .entry)) ⌝ }
+        ensures question { λ r. ⌜ Filled answers (now (atoms .entry)) (now (self .entry)) (now (self .exit)) r ⌝ }
+        ensures proper { λ r. ⌜ (Proper answers (now (atoms .entry)) → r ≡ Ok tt) ⌝ }
+    {
+        self.replace(answers, atoms)
     }
 
     /// The places that atoms stand in.

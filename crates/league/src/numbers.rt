@@ -1,6 +1,6 @@
 //! The numbers of a question's atoms, from left to right: the first that is out of range refuses the question.
 ghost use mathlib.Core.Path.{_≡_};
-ghost use Prim.Native.Nat.{ℕ, _+_, _≤_};
+ghost use Prim.Native.Nat.{_≤_};
 ghost use lib.ListN.{length};
 ghost use Rattle.league.specs.Filling.{termChecked, atomChecked, argumentsOf, numbersChecked};
 ghost use Rattle.league.specs.Roles.{linkOf};

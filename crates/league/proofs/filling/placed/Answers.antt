@@ -1,8 +1,8 @@
 use mathlib.Core.Path.{_≡_, sym, ap, _∙_}
 use mathlib.Core.List.{[], _∷_, _++_}
-use Prim.Native.Nat.{_+_, _<_, _≤_}
+use Prim.Native.Nat.{_+_, _<_}
 use native.Mathlib.Omega.{arith}
-use lib.ListN.{length, take, getD}
+use lib.ListN.{length, getD}
 use Rattle.std.proofs.shelf.Lists.{length-set, take-more, take-more-set, take-all}
 use Rattle.league.specs.Asked.{freshAtom}
 use Rattle.league.proofs.filling.placed.Needs as need
