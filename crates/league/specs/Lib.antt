@@ -1,3 +1,9 @@
+pub mod Asked
 pub mod Facts
 pub mod Faults
+pub mod Filling
+pub mod Proper
+pub mod Questions
 pub mod Roles
+pub mod Terms
+pub mod Worlds
