@@ -1,29 +1,34 @@
 -- What every rule table keeps: it holds of no rules, and is kept as a rule is gained.
-use mathlib.Core.Path.{_≡_, refl, sym, ap, _∙_, subst}
+use mathlib.Core.Path.{_≡_, refl, sym, _∙_, subst}
 use mathlib.Core.List.{List, [], _∷_, _++_}
 use mathlib.Core.Logic.{⊎-elim}
 use mathlib.Core.Bool.{Bool, true, false, cond, _&&_, _||_}
-use Prim.Native.Nat.{ℕ, zero, suc, _+_, _<_, _≤_}
+use Prim.Native.Nat.{ℕ, _+_, _<_, _≤_}
 use native.Mathlib.Omega.{arith}
-use lib.Dec.{T, eqb, ltb}
+use lib.Dec.{T, ltb}
 use lib.ListN.{length}
 use Rattle.std.specs.shelf.Maps.{nth}
+use Rattle.std.specs.Options.{isSome}
 use Rattle.std.specs.declared.option.Option.{Option}
 use Rattle.std.specs.declared.option.Option.the-variants.{Some, None}
+use Rattle.std.specs.declared.result.Result.the-variants.{Ok, Err}
 use Rattle.std.proofs.shelf.Lists.{length-push}
-use Rattle.std.proofs.shelf.Tests.{cases-bool, cases-eq, cases-lt, and-parts, or-cases, ltb-true, ltb-false}
-use Rattle.league.specs.Roles.{inverse, linkOf}
+use Rattle.std.proofs.shelf.Tests.{cases-bool, and-parts, or-cases, ltb-true, ltb-false}
+use Rattle.league.specs.Roles.{inverse}
+use Rattle.league.specs.declared.facts.Entry.the-variants.{New, Known}
 use Rattle.league.specs.declared.facts.Kind.{Kind}
+use Rattle.league.specs.declared.faults.BookFault.{BookFault}
+use Rattle.league.specs.declared.faults.BookFault.the-variants.{Pairs as NoRoom}
 use Rattle.league.specs.declared.roles.Role.{Role}
 use Rattle.league.specs.declared.roles.Mark.{Mark}
 use Rattle.league.specs.declared.rules.Rule.{Rule}
 use Rattle.league.specs.declared.rules.Rule.the-variants.{Inclusion, Exclusion, Required, RoleInclusion}
-use Rattle.rules.specs.Marks.{sameKind, sameRole, sameMark, markWithin, roleWithin, kindWithin, KindIn, RoleIn}
-use Rattle.rules.specs.Pairs.{pairOf, samePair, numberOf, hasPair, withPair}
-use Rattle.rules.specs.RuleSet.{RuleSet, noRules, sameRule, ruleWithin, RuleIn, hasRoom, pairsWith, gained, Proper}
+use Rattle.rules.specs.Marks.{sameKind, sameRole, sameMark, markWithin, KindIn, RoleIn}
+use Rattle.rules.specs.Pairs.{pairOf, numberOf, hasPair, withPair}
+use Rattle.rules.specs.RuleSet.{RuleSet, noRules, sameRule, ruleWithin, RuleIn, hasRoom, pairsWith, gained, heldAfter, ruleFault, unless, ruleAfter, Proper}
 use Rattle.rules.specs.declared.pair.Pair.{Pair}
-use Rattle.rules.proofs.Marked.{T-true, true-T, kind-self, role-self, mark-self, kind-eq, role-eq, mark-eq, turn-turn, turned-within, same-turned, rule-in}
-use Rattle.rules.proofs.Numbered.{pair-self, pair-eq, number-in, nth-push, with-number, with-has, with-length, with-other}
+use Rattle.rules.proofs.Marked.{kind-eq, role-eq, mark-eq, turn-turn, turned-within, rule-in, none-within}
+use Rattle.rules.proofs.Numbered.{pair-eq, number-in, nth-push, with-number, with-has, with-length, with-other}
 
 -- no rules
 pub no-rules-proper : Proper noRules
@@ -207,3 +212,15 @@ gained-proper s r w room proper =
       pairsIn = pairs-in (s .pairs) r (rule-in r w) (proper .pairsIn);
       pairsApart = pairs-apart (s .pairs) r (proper .pairsApart);
     }
+
+-- what every rule table keeps is kept as a rule is entered, whatever the reply
+pub after-proper : (s : RuleSet) (r : Rule) → Proper s → Proper (ruleAfter s r)
+after-proper s r proper =
+    cases (ruleFault r) (s .rules r) (hasRoom (s .pairs) r) (λ e room. gained-proper s r (none-within r e) room proper)
+  where
+    cases : (fault : Option BookFault) (known room : Bool) → (isSome fault ≡ false → room ≡ true → Proper (gained s r))
+        → Proper (heldAfter s r (unless fault (cond known (Ok Known) (cond room (Ok New) (Err NoRoom)))))
+    cases (Some e) known room f = proper
+    cases None true room f = proper
+    cases None false true f = f refl refl
+    cases None false false f = proper

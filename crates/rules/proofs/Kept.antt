@@ -1,24 +1,14 @@
 -- What every rule table keeps has one proof at most, so that a table can promise it.
-use mathlib.Core.Path.{_≡_}
 use mathlib.Core.Logic.{∥∥₁-elim}
-use Prim.Native.Nat.{ℕ, _≤_, _<_}
 use native.Mathlib.Bridge.{le-prop}
-use std.HLevel.{Π-prop}
-use lib.Dec.{T}
-use lib.ListN.{length}
 use base.Stored.{coded-set, codedℕ, codedBool}
-use Rattle.std.specs.shelf.Maps.{nth}
-use Rattle.std.specs.declared.option.Option.the-variants.{Some}
-use Rattle.league.specs.declared.facts.Kind.{Kind}
-use Rattle.league.specs.declared.roles.Role.{Role}
 use Rattle.league.specs.declared.roles.Mark.{Mark}
 use Rattle.league.specs.declared.roles.Mark.the-variants.{Is, Has}
 use Rattle.league.specs.declared.rules.Rule.{Rule}
 use Rattle.league.specs.declared.rules.Rule.the-variants.{Inclusion, Exclusion, Required, RoleInclusion}
-use Rattle.rules.specs.Marks.{MarkIn, RoleIn, KindIn}
+use Rattle.rules.specs.Marks.{MarkIn}
 use Rattle.rules.specs.RuleSet.{RuleSet, RuleIn, Proper}
 use Rattle.rules.specs.Tables.{means}
-use Rattle.rules.specs.declared.pair.Pair.{Pair}
 use Rattle.rules.specs.declared.table.RuleTable.{RuleTable}
 
 mark-prop : (B : Mark) → IsProp (MarkIn B)

@@ -1,9 +1,9 @@
 -- Marks and roles: what the same code says, and what the ranges say.
 use mathlib.Core.Path.{_≡_, refl, sym, ap, _∙_}
-use mathlib.Core.Bool.{Bool, true, false, not, cond, _&&_, _||_}
-use Prim.Native.Nat.{ℕ, _+_, _*_, _<_, _≤_}
+use mathlib.Core.Bool.{Bool, true, false, not, _&&_}
+use Prim.Native.Nat.{ℕ, _+_, _<_}
 use native.Mathlib.Omega.{arith}
-use lib.Dec.{T, eqb, ltb}
+use lib.Dec.{T, eqb}
 use Rattle.std.proofs.shelf.Tests.{eqb-true, ltb-true, and-parts, not-true, not-false}
 use Rattle.std.proofs.shelf.Ways.{tells}
 use Rattle.std.specs.Options.{isSome}
@@ -15,7 +15,7 @@ use Rattle.league.specs.declared.roles.Mark.{Mark}
 use Rattle.league.specs.declared.roles.Mark.the-variants.{Is, Has}
 use Rattle.league.specs.declared.rules.Rule.{Rule}
 use Rattle.league.specs.declared.rules.Rule.the-variants.{Inclusion, Exclusion, Required, RoleInclusion}
-use Rattle.rules.specs.Marks.{sameKind, sameRole, sameMark, kindWithin, roleWithin, markWithin, markCode, KindIn, RoleIn, MarkIn}
+use Rattle.rules.specs.Marks.{sameKind, sameRole, sameMark, kindWithin, roleWithin, markWithin, markCode, MarkIn}
 use Rattle.rules.specs.RuleSet.{ruleFault, ruleWithin, RuleIn}
 
 -- T b and b ≡ true

@@ -5,7 +5,7 @@ use mathlib.Core.Logic.{_⊎_, ⊎-elim, ∥∥₁-map}
 use mathlib.Core.Bool.{Bool, true, false, _&&_, _||_}
 use Prim.Native.Nat.{ℕ, _<_, _≤_}
 use native.Mathlib.Omega.{arith}
-use lib.Dec.{eqb, ltb}
+use lib.Dec.{eqb}
 use lib.ListN.{length}
 use Rattle.std.specs.shelf.Maps.{nth}
 use Rattle.std.specs.declared.option.Option.the-variants.{Some}
@@ -17,14 +17,14 @@ use Rattle.league.specs.declared.roles.Mark.{Mark}
 use Rattle.league.specs.declared.rules.Rule.{Rule}
 use Rattle.league.specs.declared.rules.Rule.the-variants.{Inclusion, Exclusion, Required, RoleInclusion}
 use Rattle.rules.specs.Flags.{flag}
-use Rattle.rules.specs.Marks.{sameKind, sameRole, sameMark, markWithin, roleWithin, kindWithin, markCode}
+use Rattle.rules.specs.Marks.{sameRole, sameMark, markWithin, roleWithin, kindWithin, markCode}
 use Rattle.rules.specs.Noted.{noted, ruleSetOf}
 use Rattle.rules.specs.Pairs.{pairOf, samePair, numberOf, hasPair, withPair}
-use Rattle.rules.specs.RuleSet.{RuleSet, noRules, sameRule, ruleWithin, hasRoom, pairsWith, gained, Proper}
+use Rattle.rules.specs.RuleSet.{RuleSet, noRules, sameRule, ruleWithin, hasRoom, gained, Proper}
 use Rattle.rules.specs.declared.pair.Pair.{Pair}
 use Rattle.rules.proofs.Gained.{same-within, or-swap, and-swap, gained-proper}
 use Rattle.rules.proofs.Marked.{role-code, mark-code, same-turned}
-use Rattle.rules.proofs.Numbered.{pair-self, pair-eq, number-le, number-at, with-number, with-has, with-length, with-other, with-has-other}
+use Rattle.rules.proofs.Numbered.{pair-self, pair-eq, number-at, with-number, with-has, with-length, with-other, with-has-other}
 
 -- no flag is set
 abbrev pub Blank : List (List Bool) → Type 0

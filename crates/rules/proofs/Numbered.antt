@@ -2,20 +2,18 @@
 use mathlib.Core.Path.{_≡_, refl, sym, ap, _∙_}
 use mathlib.Core.List.{List, [], _∷_, _++_}
 use mathlib.Core.Logic.{_⊎_, inl, inr, ⊎-elim}
-use mathlib.Core.Bool.{Bool, true, false, cond, _&&_, _||_}
+use mathlib.Core.Bool.{Bool, true, false, cond}
 use Prim.Native.Nat.{ℕ, zero, suc, _+_, _<_, _≤_}
 use native.Mathlib.Omega.{arith}
-use lib.Dec.{eqb, ltb}
 use lib.ListN.{length}
 use Rattle.std.specs.shelf.Maps.{nth}
-use Rattle.std.specs.declared.option.Option.the-variants.{Some, None}
+use Rattle.std.specs.declared.option.Option.the-variants.{Some}
 use Rattle.std.specs.declared.result.Result.{Result}
 use Rattle.std.specs.declared.result.Result.the-variants.{Ok, Err}
 use Rattle.league.specs.declared.faults.BookFault.{BookFault}
 use Rattle.league.specs.declared.faults.BookFault.the-variants.{Pairs as NoRoom}
 use Rattle.std.proofs.shelf.Lists.{length-push}
-use Rattle.std.proofs.shelf.Tests.{cases-bool, and-parts, and-from, lt-ltb, ltb-true, ltb-false, le-ltb, cond-true, cond-false}
-use Rattle.std.proofs.shelf.Ways.{tells}
+use Rattle.std.proofs.shelf.Tests.{cases-bool, and-parts, and-from, lt-ltb, ltb-true, ltb-false, le-ltb}
 use Rattle.rules.specs.Marks.{sameKind, sameRole}
 use Rattle.rules.specs.Pairs.{samePair, numberOf, hasPair, withPair}
 use Rattle.rules.specs.declared.pair.Pair.{Pair}

@@ -1,36 +1,23 @@
 -- Pairs in use: how many, at which number, and one pair more.
-use mathlib.Core.Path.{_≡_, refl, sym, ap, _∙_}
-use mathlib.Core.List.{List, [], _∷_, _++_}
-use mathlib.Core.Logic.{⊎-elim}
-use mathlib.Core.Bool.{Bool, true, false, cond, _&&_, _||_}
-use Prim.Native.Nat.{ℕ, zero, suc, _+_, _<_, _≤_}
+use mathlib.Core.Path.{_≡_, refl, ap, _∙_}
+use mathlib.Core.List.{List, _∷_}
+use mathlib.Core.Bool.{Bool, true, false}
+use Prim.Native.Nat.{ℕ, _+_, _<_, _≤_}
 use native.Mathlib.Omega.{arith}
-use native.Mathlib.Nat.{zero-add}
-use lib.Dec.{eqb, ltb}
-use lib.ListN.{length, getD, take, drop}
-use Rattle.std.specs.shelf.Maps.{nth}
-use Rattle.std.specs.declared.option.Option.the-variants.{Some, None}
-use Rattle.std.proofs.shelf.Lists.{length-take-le, length-take, getD-take, drop-more, drop-all}
+use lib.ListN.{length, getD, drop}
+use Rattle.std.proofs.shelf.Lists.{length-take-le, drop-more, drop-all}
 use Rattle.std.proofs.shelf.Ways.{tells}
-use Rattle.std.proofs.shelf.Tests.{cases-bool}
 use Rattle.league.specs.declared.facts.Kind.{Kind}
 use Rattle.league.specs.declared.roles.Role.{Role}
 use Rattle.league.specs.declared.roles.Role.the-variants.{Forward, Backward}
 use Rattle.rules.specs.contracts.pair.PairPartialEq.the-impl.{ghosts}
-use Rattle.std.proofs.shelf.Maps.{nth-getD, nth-past}
-use Rattle.rules.specs.Pairs.{pairOf, samePair, numberOf, hasPair, inUse}
+use Rattle.rules.specs.InUse.{inUse}
+use Rattle.rules.specs.Pairs.{pairOf, samePair, numberOf}
 use Rattle.rules.specs.declared.pair.Pair.{Pair}
+use Rattle.rules.specs.declared.pairs.PairList.{PairList}
 
-pub length-in-use : (places : List Pair) (count : ℕ) → count ≤ 32 → length places ≡ 32 → count ≡ length (inUse places count)
-length-in-use places count few n = sym (length-take-le count places (omega arith))
-
-pub get-in-use : (places : List Pair) (count i : ℕ) (d : Pair) → i < count → count ≤ 32 → length places ≡ 32
-    → Some (getD places i d) ≡ nth (inUse places count) i
-get-in-use places count i d l few n =
-    sym (nth-getD (take count places) i d (omega (arith, length-take-le count places (omega arith))) ∙ ap Some (getD-take count places i d l))
-
-pub get-past-use : (places : List Pair) (count i : ℕ) → count ≤ i → None ≡ nth (inUse places count) i
-get-past-use places count i l = sym (nth-past (take count places) i (omega (arith, length-take count places)))
+pub length-in-use : (t : PairList) → length (inUse t) ≡ t .count
+length-in-use t = length-take-le (t .count) (t .places) (omega (arith, t .few, t .sized))
 
 -- what `==` tells of two pairs
 pair-equals : (R S : Role) (k m : Kind) (r : Bool) → ghosts .equals (pairOf R k) (pairOf S m) r → r ≡ samePair (pairOf R k) (pairOf S m)
@@ -51,27 +38,16 @@ abbrev pub unused : Pair
 unused = pairOf (Forward (record { 0 = 0 })) (record { 0 = 0 })
 
 -- the number of a pair, looked for from a place on
-module _ (places : List Pair) (count i : ℕ) (few : count ≤ 32) (n : length places ≡ 32) where
-  within : i < count → i < length (inUse places count)
-  within l = omega (arith, length-take-le count places (omega arith))
+module _ (ps : List Pair) (i : ℕ) (p : Pair) where
+  number-next : i < length ps → i + numberOf (drop i ps) p ≡ i + numberOf (getD ps i unused ∷ drop (i + 1) ps) p
+  number-next l = ap (λ (qs : List Pair). i + numberOf qs p) (drop-more ps i unused l)
 
-  next : (d : Pair) → i < count → drop i (inUse places count) ≡ getD places i d ∷ drop (i + 1) (inUse places count)
-  next d l =
-      drop-more (inUse places count) i d (within l)
-      ∙ ap (λ (p : Pair). p ∷ drop (i + 1) (inUse places count)) (getD-take count places i d l)
+  pub number-passed : i < length ps → samePair (getD ps i unused) p ≡ false
+      → i + numberOf (drop i ps) p ≡ (i + 1) + numberOf (drop (i + 1) ps) p
+  number-passed l d = number-next l ∙ rw d (omega arith)
 
-  number-next : (d p : Pair) → i < count
-      → i + numberOf (drop i (inUse places count)) p ≡ i + numberOf (getD places i d ∷ drop (i + 1) (inUse places count)) p
-  number-next d p l = ap (λ (ps : List Pair). i + numberOf ps p) (next d l)
+  pub number-found : i < length ps → samePair (getD ps i unused) p ≡ true → i + numberOf (drop i ps) p ≡ i
+  number-found l d = number-next l ∙ rw d (omega arith)
 
-  pub number-passed : (d p : Pair) → i < count → samePair (getD places i d) p ≡ false
-      → i + numberOf (drop i (inUse places count)) p ≡ (i + 1) + numberOf (drop (i + 1) (inUse places count)) p
-  number-passed d p l e = number-next d p l ∙ rw e (omega arith)
-
-  pub number-found : (d p : Pair) → i < count → samePair (getD places i d) p ≡ true → i + numberOf (drop i (inUse places count)) p ≡ i
-  number-found d p l e = number-next d p l ∙ rw e (omega arith)
-
-  pub number-none : (p : Pair) → count ≤ i → i ≤ count → i + numberOf (drop i (inUse places count)) p ≡ count
-  number-none p l m =
-      ap (λ (ps : List Pair). i + numberOf ps p) (drop-all i (inUse places count) (omega (arith, length-take count places)))
-      ∙ omega arith
+  pub number-none : length ps ≤ i → i ≤ length ps → i + numberOf (drop i ps) p ≡ length ps
+  number-none l m = ap (λ (qs : List Pair). i + numberOf qs p) (drop-all i ps l) ∙ omega arith

@@ -1,5 +1,6 @@
 pub mod Flags
 pub mod Follows
+pub mod InUse
 pub mod Marks
 pub mod Noted
 pub mod Pairs

@@ -3,7 +3,7 @@ use mathlib.Core.Bool.{Bool, cond, _&&_, _||_}
 use mathlib.Core.List.{List, [], _∷_, _++_}
 use Prim.Native.Nat.{ℕ, suc}
 use lib.Dec.{ltb}
-use lib.ListN.{length, take}
+use lib.ListN.{length}
 use Rattle.league.specs.declared.facts.Kind.{Kind}
 use Rattle.league.specs.declared.roles.Role.{Role}
 use Rattle.rules.specs.Marks.{sameKind, sameRole}
@@ -25,10 +25,6 @@ numberOf (q ∷ qs) p = cond (samePair q p) 0 (suc (numberOf qs p))
 -- the pair is in the list
 abbrev pub hasPair : List Pair → Pair → Bool
 hasPair ps p = ltb (numberOf ps p) (length ps)
-
--- the pairs in use: the first of the places
-abbrev pub inUse : List Pair → ℕ → List Pair
-inUse places count = take count places
 
 -- there is room for the pair: it is in use already, or fewer than 32 are
 abbrev pub fits : List Pair → Pair → Bool

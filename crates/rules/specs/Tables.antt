@@ -1,6 +1,6 @@
 -- What a rule table holds.
 use Rattle.rules.specs.Noted.{ruleSetOf}
-use Rattle.rules.specs.Pairs.{inUse}
+use Rattle.rules.specs.InUse.{inUse}
 use Rattle.rules.specs.RuleSet.{RuleSet}
 use Rattle.rules.specs.declared.table.RuleTable.{RuleTable}
 
@@ -8,4 +8,4 @@ use Rattle.rules.specs.declared.table.RuleTable.{RuleTable}
 abbrev pub means : RuleTable → RuleSet
 means t =
     ruleSetOf (t .inclusions .cells) (t .exclusions .cells) (t .required .cells) (t .roles .cells)
-    (inUse (t .pairs .places) (t .pairs .count))
+    (inUse (t .pairs))

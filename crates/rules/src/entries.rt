@@ -13,7 +13,7 @@ ghost use Rattle.league.specs.declared.rules.Rule.the-variants.{Inclusion as In
 ghost use Rattle.rules.specs.Flags.{flag};
 ghost use Rattle.rules.specs.Marks.{markCode, markWithin, roleWithin};
 ghost use Rattle.rules.specs.Pairs.{hasPair, numberOf};
-ghost use Rattle.rules.specs.RuleSet.{noRules, ruleReply, ruleAfter, ruleWithin, hasRoom, gained, heldAfter, Proper};
+ghost use Rattle.rules.specs.RuleSet.{noRules, ruleReply, ruleAfter, ruleWithin, hasRoom, gained, Proper};
 ghost use Rattle.rules.specs.Tables.{means};
 use crate::flags::Flags;
 use crate::pair::Pair;

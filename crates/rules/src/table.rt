@@ -5,7 +5,7 @@ ghost use Prim.Native.Nat.{ℕ, _≤_};
 ghost use lib.ListN.{length};
 ghost use Rattle.rules.specs.Flags.{flag};
 ghost use Rattle.rules.specs.Noted.{ruleSetOf};
-ghost use Rattle.rules.specs.Pairs.{inUse};
+ghost use Rattle.rules.specs.InUse.{inUse};
 ghost use Rattle.rules.specs.RuleSet.{Proper};
 use crate::flags::Flags;
 use crate::pairs::PairList;
@@ -22,6 +22,6 @@ pub struct RuleTable {
     /// Role by role, each rule in both its spellings.
     pub(crate) roles: Flags<64, 64>,
     pub(crate) pairs: PairList,
-    ghost proper: { ∥ Proper (ruleSetOf (inclusions .cells) (exclusions .cells) (required .cells) (roles .cells) (inUse (pairs .places) (pairs .count))) ∥₁ },
-    ghost empty: { (i j : ℕ) → length (inUse (pairs .places) (pairs .count)) ≤ j → flag (required .cells) i j ≡ false },
+    ghost proper: { ∥ Proper (ruleSetOf (inclusions .cells) (exclusions .cells) (required .cells) (roles .cells) (inUse pairs)) ∥₁ },
+    ghost empty: { (i j : ℕ) → length (inUse pairs) ≤ j → flag (required .cells) i j ≡ false },
 }

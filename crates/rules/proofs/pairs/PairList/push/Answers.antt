@@ -6,4 +6,4 @@ use Rattle.rules.proofs.pairs.PairList.push.Needs as need
 pub returns : need.returns
 returns c =
     let t = c .args .self .now in
-    take-more-set (t .places) (t .count) (c .args .pair) (omega (arith, length-in-use (t .places) (t .count) (t .few) (t .sized)))
+    take-more-set (t .places) (t .count) (c .args .pair) (omega (arith, length-in-use t))

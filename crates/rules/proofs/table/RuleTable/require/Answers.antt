@@ -2,10 +2,10 @@ use mathlib.Core.Bool.{true}
 use mathlib.Core.Path.{_≡_, refl, sym, ap, _∙_, subst}
 use mathlib.Core.List.{List}
 use Rattle.league.specs.declared.rules.Rule.the-variants.{Required}
+use Rattle.rules.specs.InUse.{inUse}
 use Rattle.rules.specs.Marks.{markCode}
 use Rattle.rules.specs.Noted.{ruleSetOf}
-use Rattle.rules.specs.Pairs.{pairOf, inUse, fits, numberOf, withPair}
-use Rattle.rules.specs.RuleSet.{gained}
+use Rattle.rules.specs.Pairs.{pairOf, fits, numberOf, withPair}
 use Rattle.rules.specs.Tables.{means}
 use Rattle.rules.specs.declared.pair.Pair.{Pair}
 use Rattle.rules.proofs.Noting.{at-codes, gain-required, empty-more, kept, Empty}
@@ -15,12 +15,12 @@ use Rattle.rules.proofs.table.RuleTable.require.Needs as need
 pub ghost-self-2 : need.ghost-self-2
 ghost-self-2 c =
     let t = c .args .self .now in
-    let ps = inUse (t .pairs .places) (t .pairs .count) in
+    let ps = inUse (t .pairs) in
     let p = pairOf (c .args .role) (c .args .kind) in
     let room : fits ps p ≡ true = taken (fits ps p) (c .in-Continue-number .number) (numberOf ps p) (c .in-Continue-number .ensures tt .replies) in
     let number : c .in-Continue-number .number ≡ numberOf ps p =
     taken-number (fits ps p) (c .in-Continue-number .number) (numberOf ps p) (c .in-Continue-number .ensures tt .replies) in
-    let pairs : inUse (c .take-number .last .self .places) (c .take-number .last .self .count) ≡ withPair ps p =
+    let pairs : inUse (c .take-number .last .self) ≡ withPair ps p =
     taken-pairs (fits ps p) _ (withPair ps p) ps (c .take-number .ensures .holds) room in
     let set = at-codes (t .required .cells) (c .set .last .self .cells) (c .mark-code .result) (c .in-Continue-number .number) (markCode (c .args .mark)) (numberOf ps p)
     (c .mark-code .ensures .tells) number (c .set .ensures) in
@@ -38,12 +38,12 @@ ghost-self-2 c =
 pub returns : need.returns
 returns c =
     let t = c .args .self .now in
-    let ps = inUse (t .pairs .places) (t .pairs .count) in
+    let ps = inUse (t .pairs) in
     let p = pairOf (c .args .role) (c .args .kind) in
     let room : fits ps p ≡ true = taken (fits ps p) (c .in-Continue-number .number) (numberOf ps p) (c .in-Continue-number .ensures tt .replies) in
     let number : c .in-Continue-number .number ≡ numberOf ps p =
     taken-number (fits ps p) (c .in-Continue-number .number) (numberOf ps p) (c .in-Continue-number .ensures tt .replies) in
-    let pairs : inUse (c .take-number .last .self .places) (c .take-number .last .self .count) ≡ withPair ps p =
+    let pairs : inUse (c .take-number .last .self) ≡ withPair ps p =
     taken-pairs (fits ps p) _ (withPair ps p) ps (c .take-number .ensures .holds) room in
     let set = at-codes (t .required .cells) (c .set .last .self .cells) (c .mark-code .result) (c .in-Continue-number .number) (markCode (c .args .mark)) (numberOf ps p)
     (c .mark-code .ensures .tells) number (c .set .ensures) in
