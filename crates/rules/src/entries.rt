@@ -42,7 +42,9 @@ impl RuleTable {
         }
     }
 
-    /// How many pairs are in use.
+    /// How many pairs are in use. A caller also learns what every table keeps: rules and pairs are in range,
+    /// the pairs are distinct and at most 32, every required partner has its pair among them,
+    /// and both spellings of a rule are accepted together.
     pub fn pair_count(&self) -> usize
         ensures counts { λ r. ⌜ r ≡ length (means (now (self .entry)) .pairs) ⌝ }
         ensures keeps { λ _. ⌜ Proper (means (now (self .entry))) ⌝ }
