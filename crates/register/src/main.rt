@@ -39,7 +39,10 @@ fn serve(rt: &LibcRuntime) -> Result<(), AnyError> {
     let mut text = [0u8; BYTES];
     let len = read_text(rt, &mut text)?;
     if len == BYTES {
-        eprintln!(rt, "register: 32768 bytes of input were read; anything after them was not")?;
+        eprintln!(
+            rt,
+            "register: 32768 bytes of input were read; anything after them was not"
+        )?;
     }
     let mut records = [Fact::Is(Kind(0), Name(0)); RECORDS];
     let mut page = [0u8; BYTES];
