@@ -9,21 +9,25 @@ use text::scan::find_byte;
 
 const PAGE: usize = 65_536;
 
-/// Runs a text with so many records and so many bytes of output, and prints the result and the page up to its first byte 0.
-fn show(rt: &LibcRuntime, title: &str, text: &[u8], records: usize, page: usize) -> Result<(), AnyError> {
-    let mut store = [Fact::Is(Kind(0), Name(0)); 512];
-    let mut bytes = [0u8; PAGE];
-    let outcome = run(text, &mut store[0..records.min(512)], &mut bytes[0..page.min(PAGE)]);
-    match outcome {
+/// Runs a text over lent records and a lent page, and prints the result and the page up to its first byte 0.
+fn show_on(rt: &LibcRuntime, title: &str, text: &[u8], records: &mut [Fact], page: &mut [u8]) -> Result<(), AnyError> {
+    match run(text, records, page) {
         Ok(len) => println!(rt, "# {title}: {len} bytes")?,
         Err(fault) => {
             let number = fault.number();
             println!(rt, "# {title}: refusal {number}")?;
         }
     }
-    let end = find_byte(&bytes, 0);
-    rt.stdout().write_all(&bytes[0..end])?;
+    let end = find_byte(page, 0);
+    rt.stdout().write_all(&page[0..end])?;
     Ok(())
+}
+
+/// The same with so many records and so many bytes of output.
+fn show(rt: &LibcRuntime, title: &str, text: &[u8], records: usize, page: usize) -> Result<(), AnyError> {
+    let mut store = [Fact::Is(Kind(0), Name(0)); 512];
+    let mut bytes = [0u8; PAGE];
+    show_on(rt, title, text, &mut store[0..records.min(512)], &mut bytes[0..page.min(PAGE)])
 }
 
 fn spelling(rt: &LibcRuntime) -> Result<(), AnyError> {

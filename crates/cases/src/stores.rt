@@ -62,8 +62,9 @@ fn records(rt: &LibcRuntime) -> Result<(), AnyError> {
 }
 
 fn bits(rt: &LibcRuntime) -> Result<(), AnyError> {
+    let mut few = [255u8; 31];
+    tell(rt, "31 bytes, 2 names", &BitStore::open(&mut few, 2))?;
     let mut bytes = [255u8; 33];
-    tell(rt, "31 bytes, 2 names", &BitStore::open(&mut bytes[0..31], 2))?;
     let mut store = BitStore::open(&mut bytes, 2);
     tell(rt, "33 bytes, 2 names", &store)?;
     enter(rt, &mut store)?;
