@@ -2,3 +2,5 @@ pub mod Cuts
 pub mod Digits
 pub mod Numbers
 pub mod Pages
+pub mod Spelling
+pub mod Tells
