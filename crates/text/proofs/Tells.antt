@@ -10,7 +10,7 @@ use Rattle.std.specs.declared.result.Result.{Result}
 use Rattle.std.specs.declared.result.Result.the-variants.{Ok, Err}
 use Rattle.text.specs.declared.faults.Unreadable.{Unreadable}
 use Rattle.text.specs.Lines.{Bytes}
-use Rattle.text.specs.Tokens.{got, orUnreadable, others, atEnd}
+use Rattle.text.specs.Tokens.{got, said, orUnreadable, others, atEnd}
 use Rattle.text.specs.Grammar.{andThen, two, three}
 use Rattle.text.proofs.Spelling.{Spells}
 
@@ -104,3 +104,54 @@ module _ {A B : Type 0} {p : Bytes → Option A} {q : Bytes → Option B} {f : A
         (λ v vs l. (v .1, [], l .1, l .2, ((λ i. (l .0 i, v .1)), refl)))
         ((a, b₀ .0), g (b₀ .0) ∷ [], (refl, b₀ .1, refl)) 3 (others ws) _
         (λ b. tells-end 4 (a, b) (others (others ws))))
+
+-- three fields
+module _ {A B C : Type 0} {p : Bytes → Option A} {q : Bytes → Option B} {r : Bytes → Option C} {f : A → Bytes} {g : B → Bytes} {h : C → Bytes}
+    {ok : A → Type 0} {fine : B → Type 0} {good : C → Type 0} (s : Spells p f ok) (t : Spells q g fine) (u : Spells r h good) where
+  -- the fields of three values
+  abbrev pub All : A × B × C → List Bytes → Type 0
+  All v ws = ok (v .0) × fine (v .1) × good (v .2) × (ws ≡ f (v .0) ∷ (g (v .1) ∷ (h (v .2) ∷ [])))
+
+  abbrev LastTwo : A → A × B × C → List Bytes → Type 0
+  LastTwo a v ws = (v .0 ≡ a) × fine (v .1) × good (v .2) × (ws ≡ g (v .1) ∷ (h (v .2) ∷ []))
+
+  abbrev LastOne : A → B → A × B × C → List Bytes → Type 0
+  LastOne a b v ws = (v .0 ≡ a) × (v .1 ≡ b) × good (v .2) × (ws ≡ h (v .2) ∷ [])
+
+  abbrev LastNone : A → B → C → A × B × C → List Bytes → Type 0
+  LastNone a b c v ws = (v ≡ (a, b, c)) × (ws ≡ [])
+
+  pub tells-three : (ws : List Bytes) → Tells All 2 ws (three p q r ws)
+  tells-three ws =
+      let a₀ = s .one in
+      let b₀ = t .one in
+      let c₀ = u .one in
+      tells-field p f ok s All LastTwo
+      (λ a v vs l m. (subst ok (sym (m .0)) l, m .1, m .2, λ i. f (sym (m .0) i) ∷ m .3 i))
+      (λ v vs l. (v .0, g (v .1) ∷ (h (v .2) ∷ []), l .0, l .3, (refl, l .1, l .2, refl)))
+      ((a₀ .0, b₀ .0, c₀ .0), f (a₀ .0) ∷ (g (b₀ .0) ∷ (h (c₀ .0) ∷ [])), (a₀ .1, b₀ .1, c₀ .1, refl)) 2 ws _
+      (λ a.
+        tells-field q g fine t (LastTwo a) (LastOne a)
+        (λ b v vs l m. (m .0, subst fine (sym (m .1)) l, m .2, λ i. g (sym (m .1) i) ∷ m .3 i))
+        (λ v vs l. (v .1, h (v .2) ∷ [], l .1, l .3, (l .0, refl, l .2, refl)))
+        ((a, b₀ .0, c₀ .0), g (b₀ .0) ∷ (h (c₀ .0) ∷ []), (refl, b₀ .1, c₀ .1, refl)) 3 (others ws) _
+        (λ b.
+          tells-field r h good u (LastOne a b) (LastNone a b)
+          (λ c v vs l m. (
+            ap (λ (x : A × B × C). x .0) (m .0),
+            ap (λ (x : A × B × C). x .1) (m .0),
+            subst (λ (x : A × B × C). good (x .2)) (sym (m .0)) l,
+            λ i. h (sym (m .0) i .2) ∷ m .1 i
+          ))
+          (λ v vs l. (v .2, [], l .2, l .3, ((λ i. (l .0 i, l .1 i, v .2)), refl)))
+          ((a, b, c₀ .0), h (c₀ .0) ∷ [], (refl, refl, c₀ .1, refl)) 4 (others (others ws)) _
+          (λ c. tells-end 5 (a, b, c) (others (others (others ws))))))
+
+-- a field of a value's text says the value
+said-back : {A : Type 0} (form : Bytes → Option A) (n : ℕ) (w : Bytes) (a : A) → form w ≡ Some a → (w ≡ [] → ⊥) → said form n w ≡ Ok a
+said-back form n [] a e some = absurd (some refl)
+said-back form n (b ∷ bs) a e some = ap (orUnreadable n) e
+
+pub got-back : {A : Type 0} {form : Bytes → Option A} {text : A → Bytes} {ok : A → Type 0} (s : Spells form text ok) (n : ℕ) (a : A) (ws : List Bytes) → ok a
+    → got form n (text a ∷ ws) ≡ Ok a
+got-back {form = form} {text = text} s n a ws l = said-back form n (text a) a (s .from a l) (s .some a l)
