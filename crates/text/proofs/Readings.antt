@@ -1,6 +1,6 @@
 -- What the reading of a line tells, by the letter that it begins with.
 use mathlib.Core.Path.{_≡_, refl, sym, ap, subst, _∙_}
-use mathlib.Core.Bool.{Bool, true, false, cond}
+use mathlib.Core.Bool.{Bool, true, false, cond, true≢false}
 use mathlib.Core.List.{List, [], _∷_}
 use mathlib.Core.Logic.{_⊎_, ⊎-elim}
 use Prim.Native.Nat.{ℕ, zero, suc, _+_, _-_, _<_, _≤_}
@@ -10,7 +10,7 @@ use lib.ListN.{take, length}
 use Rattle.std.specs.declared.option.Option.{Option}
 use Rattle.std.specs.declared.result.Result.{Result}
 use Rattle.std.specs.declared.result.Result.the-variants.{Ok, Err}
-use Rattle.std.proofs.shelf.Tests.{cases-bool, eqb-true}
+use Rattle.std.proofs.shelf.Tests.{cases-bool, eqb-true, eq-eqb}
 use Rattle.league.specs.declared.facts.Fact.the-variants as fact
 use Rattle.league.specs.declared.rules.Rule.the-variants.{Inclusion, Exclusion, Required, RoleInclusion}
 use Rattle.certain.specs.declared.calls.Call.{Call}
@@ -74,3 +74,99 @@ module _ {T : Type 0} (L : T → List Bytes → Type 0) (P : List Bytes → Resu
       by (Err e) h =
           let s = h .2 in
           (suc (h .0), omega (arith, h .1), (make (s .0), (x ∷ []) ∷ s .1, enter (s .0) (s .1) (s .2), ap (λ w. (x ∷ []) ∷ w) (s .3)), λ u. never (h .0) ws (u .1) (u .0) (h .3) (u .2) (u .3))
+
+-- the letter of a call's line
+abbrev letterOf : Call → ℕ
+letterOf (EnterFact (fact.Is kind name)) = 75
+letterOf (EnterFact (fact.Joins link from to)) = 76
+letterOf (EnterRule (Inclusion first second)) = 82
+letterOf (EnterRule (Exclusion first second)) = 78
+letterOf (EnterRule (Required mark role kind)) = 83
+letterOf (EnterRule (RoleInclusion first second)) = 72
+
+first-field : (c : Call) → take 1 (written c) ≡ (letterOf c ∷ []) ∷ []
+first-field (EnterFact (fact.Is kind name)) = refl
+first-field (EnterFact (fact.Joins link from to)) = refl
+first-field (EnterRule (Inclusion first second)) = refl
+first-field (EnterRule (Exclusion first second)) = refl
+first-field (EnterRule (Required mark role kind)) = refl
+first-field (EnterRule (RoleInclusion first second)) = refl
+
+-- a byte that is none of the six
+abbrev Other : ℕ → Type 0
+Other x = (x ≡ 75 → ⊥) × (x ≡ 76 → ⊥) × (x ≡ 82 → ⊥) × (x ≡ 78 → ⊥) × (x ≡ 83 → ⊥) × (x ≡ 72 → ⊥)
+
+other-letter : (x : ℕ) → Other x → (c : Call) → x ≡ letterOf c → ⊥
+other-letter x o (EnterFact (fact.Is kind name)) e = o .0 e
+other-letter x o (EnterFact (fact.Joins link from to)) e = o .1 e
+other-letter x o (EnterRule (Inclusion first second)) e = o .2 e
+other-letter x o (EnterRule (Exclusion first second)) e = o .3 e
+other-letter x o (EnterRule (Required mark role kind)) e = o .4 e
+other-letter x o (EnterRule (RoleInclusion first second)) e = o .5 e
+
+-- no call's line begins with this field
+wrong-letter : (ws : List Bytes) → ((c : Call) → take 1 ws ≡ (letterOf c ∷ []) ∷ [] → ⊥) → Tells Line 1 ws (Err (record { 0 = 1 }))
+wrong-letter ws none =
+    let c : Call = EnterFact (fact.Is (record { 0 = 0 }) (record { 0 = 0 })) in
+    (0, refl, (c, written c, ((omega arith, omega arith), refl), refl), λ u. none (u .0) (u .3 ∙ (ap (take 1) (u .2 .1) ∙ first-field (u .0))))
+
+-- one letter, or another
+choose : (x y : ℕ) (ws : List Bytes) (r s : Result Call Unreadable) → Tells Line 1 ((y ∷ []) ∷ ws) r → ((x ≡ y → ⊥) → Tells Line 1 ((x ∷ []) ∷ ws) s)
+    → Tells Line 1 ((x ∷ []) ∷ ws) (cond (eqb x y) r s)
+choose x y ws r s h k =
+    ⊎-elim
+    (λ e. rw e (subst (λ z. Tells Line 1 ((z ∷ []) ∷ ws) r) (sym (eqb-true x y e)) h))
+    (λ e. rw e (k (λ z. let n : eqb x y ≡ true = eq-eqb x y z in let f : true ≡ false = sym n ∙ e in absurd (true≢false f))))
+    (cases-bool (eqb x y))
+
+by-letter : (x : ℕ) (ws : List Bytes) → Tells Line 1 ((x ∷ []) ∷ ws) (byLetter x ws)
+by-letter x ws =
+    choose x 75 ws _ _
+    (tells-line (Both spells-number spells-number) (two numeral numeral) (λ t. EnterFact (fact.Is (record { 0 = t .0 }) (record { 0 = t .1 }))) 75
+    (tells-two spells-number spells-number) (λ t vs h. ((h .0, h .1), ap (λ w. (75 ∷ []) ∷ w) (h .2))) (λ c vs l e. ap reading e ∙ reads-back c l) ws) (λ n₀.
+    choose x 76 ws _ _
+    (tells-line (All spells-number spells-number spells-number) (three numeral numeral numeral)
+    (λ t. EnterFact (fact.Joins (record { 0 = t .0 }) (record { 0 = t .1 }) (record { 0 = t .2 }))) 76
+    (tells-three spells-number spells-number spells-number) (λ t vs h. ((h .0, h .1, h .2), ap (λ w. (76 ∷ []) ∷ w) (h .3))) (λ c vs l e. ap reading e ∙ reads-back c l) ws) (λ n₁.
+    choose x 82 ws _ _
+    (tells-line (Both spells-mark spells-mark) (two markForm markForm) (λ t. EnterRule (Inclusion (t .0) (t .1))) 82
+    (tells-two spells-mark spells-mark) (λ t vs h. ((h .0, h .1), ap (λ w. (82 ∷ []) ∷ w) (h .2))) (λ c vs l e. ap reading e ∙ reads-back c l) ws) (λ n₂.
+    choose x 78 ws _ _
+    (tells-line (Both spells-mark spells-mark) (two markForm markForm) (λ t. EnterRule (Exclusion (t .0) (t .1))) 78
+    (tells-two spells-mark spells-mark) (λ t vs h. ((h .0, h .1), ap (λ w. (78 ∷ []) ∷ w) (h .2))) (λ c vs l e. ap reading e ∙ reads-back c l) ws) (λ n₃.
+    choose x 83 ws _ _
+    (tells-line (All spells-mark spells-role spells-kind) (three markForm roleForm kindForm) (λ t. EnterRule (Required (t .0) (t .1) (t .2))) 83
+    (tells-three spells-mark spells-role spells-kind) (λ t vs h. ((h .0, h .1, h .2), ap (λ w. (83 ∷ []) ∷ w) (h .3))) (λ c vs l e. ap reading e ∙ reads-back c l) ws) (λ n₄.
+    choose x 72 ws _ _
+    (tells-line (Both spells-role spells-role) (two roleForm roleForm) (λ t. EnterRule (RoleInclusion (t .0) (t .1))) 72
+    (tells-two spells-role spells-role) (λ t vs h. ((h .0, h .1), ap (λ w. (72 ∷ []) ∷ w) (h .2))) (λ c vs l e. ap reading e ∙ reads-back c l) ws) (λ n₅.
+    wrong-letter ((x ∷ []) ∷ ws) (λ c e. let z : x ≡ letterOf c = cc in other-letter x (n₀, n₁, n₂, n₃, n₄, n₅) c z)))))))
+
+tells-reading : (ws : List Bytes) → Tells Line 1 ws (reading ws)
+tells-reading [] = wrong-letter [] (λ c e. let z : _≡_ {A = ℕ} 0 1 = ap length e in omega arith)
+tells-reading ([] ∷ ws) = wrong-letter ([] ∷ ws) (λ c e. let z : [] ≡ letterOf c ∷ [] = cc in let y : _≡_ {A = ℕ} 0 1 = ap length z in omega arith)
+tells-reading ((x ∷ []) ∷ ws) = by-letter x ws
+tells-reading ((x ∷ (y ∷ ys)) ∷ ws) =
+    wrong-letter ((x ∷ (y ∷ ys)) ∷ ws) (λ c e.
+    let z : x ∷ (y ∷ ys) ≡ letterOf c ∷ [] = cc in let o : suc (suc (length ys)) ≡ 1 = ap length z in omega arith)
+
+-- what the reading of a line means
+pub means : (line : Bytes) (r : Result Call Unreadable) → r ≡ reading (fields line) → Means line r
+means line r e =
+    record {
+      readable = λ c f.
+        let h : Line c (fields line) = subst (Tells Line 1 (fields line)) (sym e ∙ f) (tells-reading (fields line)) in
+        (h .0, sym (spaced-fields line) ∙ ap spaced (h .1));
+      back = λ c l f. e ∙ (ap (λ s. reading (fields s)) f ∙ (ap reading (fields-written c l) ∙ reads-back c l));
+      unreadable = λ n f. wrong n (subst (Tells Line 1 (fields line)) (sym e ∙ f) (tells-reading (fields line)));
+    }
+  where
+    wrong : (n : ℕ) → Tells Line 1 (fields line) (Err (record { 0 = n })) → (1 ≤ n) × Begins (n - 1) (fields line) × (Begins n (fields line) → ⊥)
+    wrong n h =
+        let k : n - 1 ≡ h .0 = omega (arith, h .1) in
+        let m : n ≡ suc (h .0) = omega (arith, h .1) in
+        let s = h .2 in (
+          omega arith,
+          (s .0, s .2 .0, rw k (s .3 ∙ ap (take (h .0)) (s .2 .1))),
+          λ b. h .3 (b .0, written (b .0), (b .1, refl), subst (λ j. take j (fields line) ≡ take j (written (b .0))) m (b .2))
+        )
