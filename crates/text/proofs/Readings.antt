@@ -155,8 +155,8 @@ pub means : (line : Bytes) (r : Result Call Unreadable) → r ≡ reading (field
 means line r e =
     record {
       readable = λ c f.
-        let h : Line c (fields line) = subst (Tells Line 1 (fields line)) (sym e ∙ f) (tells-reading (fields line)) in
-        (h .0, sym (spaced-fields line) ∙ ap spaced (h .1));
+          let h : Line c (fields line) = subst (Tells Line 1 (fields line)) (sym e ∙ f) (tells-reading (fields line)) in
+          (h .0, sym (spaced-fields line) ∙ ap spaced (h .1));
       back = λ c l f. e ∙ (ap (λ s. reading (fields s)) f ∙ (ap reading (fields-written c l) ∙ reads-back c l));
       unreadable = λ n f. wrong n (subst (Tells Line 1 (fields line)) (sym e ∙ f) (tells-reading (fields line)));
     }
@@ -168,5 +168,5 @@ means line r e =
         let s = h .2 in (
           omega arith,
           (s .0, s .2 .0, rw k (s .3 ∙ ap (take (h .0)) (s .2 .1))),
-          λ b. h .3 (b .0, written (b .0), (b .1, refl), subst (λ j. take j (fields line) ≡ take j (written (b .0))) m (b .2))
+          λ b. h .3 (b .0, written (b .0), (b .1, refl), subst (λ j. take j (fields line) ≡ take j (written (b .0))) m (b .2)),
         )

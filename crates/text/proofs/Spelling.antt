@@ -151,10 +151,10 @@ role-turn t a e =
     ⊎-elim
     (λ p. let l = eqb-true (t .letter) 102 (p .0) in ap roleBack (sym (p .1)) ∙ (λ i. record { letter = sym l i; number = t .number }))
     (λ f.
-      let p = cond-some (eqb (t .letter) 98) (Some (Backward (record { 0 = t .number }))) a f in
-      let l = eqb-true (t .letter) 98 (p .0) in
-      let k : Backward (record { 0 = t .number }) ≡ a = cc in
-      ap roleBack (sym k) ∙ (λ i. record { letter = sym l i; number = t .number }))
+    let p = cond-some (eqb (t .letter) 98) (Some (Backward (record { 0 = t .number }))) a f in
+    let l = eqb-true (t .letter) 98 (p .0) in
+    let k : Backward (record { 0 = t .number }) ≡ a = cc in
+    ap roleBack (sym k) ∙ (λ i. record { letter = sym l i; number = t .number }))
     (cond-either (eqb (t .letter) 102) (Forward (record { 0 = t .number })) (cond (eqb (t .letter) 98) (Some (Backward (record { 0 = t .number }))) None) a e)
 
 role-says : (a : Role) → roleOf (Some (roleBack a)) ≡ Some a
@@ -190,10 +190,10 @@ mark-role t a e =
     ⊎-elim
     (λ p. let l = eqb-true (t .letter) 102 (p .0) in ap markBack (sym (p .1)) ∙ (λ i. record { letter = sym l i; number = t .number }))
     (λ f.
-      let p = cond-some (eqb (t .letter) 98) (Some (Has (Backward (record { 0 = t .number })))) a f in
-      let l = eqb-true (t .letter) 98 (p .0) in
-      let k : Has (Backward (record { 0 = t .number })) ≡ a = cc in
-      ap markBack (sym k) ∙ (λ i. record { letter = sym l i; number = t .number }))
+    let p = cond-some (eqb (t .letter) 98) (Some (Has (Backward (record { 0 = t .number })))) a f in
+    let l = eqb-true (t .letter) 98 (p .0) in
+    let k : Has (Backward (record { 0 = t .number })) ≡ a = cc in
+    ap markBack (sym k) ∙ (λ i. record { letter = sym l i; number = t .number }))
     (cond-either (eqb (t .letter) 102) (Has (Forward (record { 0 = t .number }))) (cond (eqb (t .letter) 98) (Some (Has (Backward (record { 0 = t .number })))) None) a e)
 
 mark-turn : (t : Lettered) (a : Mark) → markOf (Some t) ≡ Some a → markBack a ≡ t

@@ -32,9 +32,14 @@ module _ {A C : Type 0} (form : Bytes → Option A) (text : A → Bytes) (ok : A
     (some : (c : C) × (vs : List Bytes) × L c vs) (n : ℕ) where
   -- the field itself is wrong
   wrong : (ws : List Bytes) → ((a : A) → ok a → take 1 ws ≡ text a ∷ [] → ⊥) → Tells L n ws (Err (record { 0 = n }))
-  wrong ws never = (0, omega arith, (some .0, some .1, some .2, refl), λ t.
-      let h = leave (t .0) (t .1) (t .2) in
-      never (h .0) (h .2) (t .3 ∙ ap (take 1) (h .3)))
+  wrong ws never = (
+    0,
+    omega arith,
+    (some .0, some .1, some .2, refl),
+    λ t.
+        let h = leave (t .0) (t .1) (t .2) in
+        never (h .0) (h .2) (t .3 ∙ ap (take 1) (h .3)),
+  )
 
   -- the field is right
   right : (w : Bytes) (ws : List Bytes) (a : A) (r : Result C Unreadable) → form w ≡ Some a → Tells (M a) (n + 1) ws r → Tells L n (w ∷ ws) r
@@ -73,9 +78,13 @@ module _ {A C : Type 0} (form : Bytes → Option A) (text : A → Bytes) (ok : A
 -- the end of the fields
 tells-end : {C : Type 0} (n : ℕ) (c : C) (ws : List Bytes) → Tells (λ d vs. (d ≡ c) × (vs ≡ [])) n ws (andThen (atEnd n ws) (λ _. Ok c))
 tells-end n c [] = (refl, refl)
-tells-end n c (w ∷ ws) =
-    (0, omega arith, (c, [], (refl, refl), refl), λ u.
-    let z : _≡_ {A = ℕ} 1 0 = ap length (u .3 ∙ ap (take 1) (u .2 .1)) in omega arith)
+tells-end n c (w ∷ ws) = (
+  0,
+  omega arith,
+  (c, [], (refl, refl), refl),
+  λ u.
+      let z : _≡_ {A = ℕ} 1 0 = ap length (u .3 ∙ ap (take 1) (u .2 .1)) in omega arith,
+)
 
 -- two fields
 module _ {A B : Type 0} {p : Bytes → Option A} {q : Bytes → Option B} {f : A → Bytes} {g : B → Bytes} {ok : A → Type 0} {fine : B → Type 0}
@@ -99,11 +108,11 @@ module _ {A B : Type 0} {p : Bytes → Option A} {q : Bytes → Option B} {f : A
       (λ v vs l. (v .0, g (v .1) ∷ [], l .0, l .2, (refl, l .1, refl)))
       ((a₀ .0, b₀ .0), f (a₀ .0) ∷ (g (b₀ .0) ∷ []), (a₀ .1, b₀ .1, refl)) 2 ws _
       (λ a.
-        tells-field q g fine t (Second a) (Neither a)
-        (λ b v vs l m. (ap (λ (x : A × B). x .0) (m .0), subst (λ (x : A × B). fine (x .1)) (sym (m .0)) l, λ i. g (sym (m .0) i .1) ∷ m .1 i))
-        (λ v vs l. (v .1, [], l .1, l .2, ((λ i. (l .0 i, v .1)), refl)))
-        ((a, b₀ .0), g (b₀ .0) ∷ [], (refl, b₀ .1, refl)) 3 (others ws) _
-        (λ b. tells-end 4 (a, b) (others (others ws))))
+      tells-field q g fine t (Second a) (Neither a)
+      (λ b v vs l m. (ap (λ (x : A × B). x .0) (m .0), subst (λ (x : A × B). fine (x .1)) (sym (m .0)) l, λ i. g (sym (m .0) i .1) ∷ m .1 i))
+      (λ v vs l. (v .1, [], l .1, l .2, ((λ i. (l .0 i, v .1)), refl)))
+      ((a, b₀ .0), g (b₀ .0) ∷ [], (refl, b₀ .1, refl)) 3 (others ws) _
+      (λ b. tells-end 4 (a, b) (others (others ws))))
 
 -- three fields
 module _ {A B C : Type 0} {p : Bytes → Option A} {q : Bytes → Option B} {r : Bytes → Option C} {f : A → Bytes} {g : B → Bytes} {h : C → Bytes}
@@ -131,21 +140,21 @@ module _ {A B C : Type 0} {p : Bytes → Option A} {q : Bytes → Option B} {r :
       (λ v vs l. (v .0, g (v .1) ∷ (h (v .2) ∷ []), l .0, l .3, (refl, l .1, l .2, refl)))
       ((a₀ .0, b₀ .0, c₀ .0), f (a₀ .0) ∷ (g (b₀ .0) ∷ (h (c₀ .0) ∷ [])), (a₀ .1, b₀ .1, c₀ .1, refl)) 2 ws _
       (λ a.
-        tells-field q g fine t (LastTwo a) (LastOne a)
-        (λ b v vs l m. (m .0, subst fine (sym (m .1)) l, m .2, λ i. g (sym (m .1) i) ∷ m .3 i))
-        (λ v vs l. (v .1, h (v .2) ∷ [], l .1, l .3, (l .0, refl, l .2, refl)))
-        ((a, b₀ .0, c₀ .0), g (b₀ .0) ∷ (h (c₀ .0) ∷ []), (refl, b₀ .1, c₀ .1, refl)) 3 (others ws) _
-        (λ b.
-          tells-field r h good u (LastOne a b) (LastNone a b)
-          (λ c v vs l m. (
-            ap (λ (x : A × B × C). x .0) (m .0),
-            ap (λ (x : A × B × C). x .1) (m .0),
-            subst (λ (x : A × B × C). good (x .2)) (sym (m .0)) l,
-            λ i. h (sym (m .0) i .2) ∷ m .1 i
-          ))
-          (λ v vs l. (v .2, [], l .2, l .3, ((λ i. (l .0 i, l .1 i, v .2)), refl)))
-          ((a, b, c₀ .0), h (c₀ .0) ∷ [], (refl, refl, c₀ .1, refl)) 4 (others (others ws)) _
-          (λ c. tells-end 5 (a, b, c) (others (others (others ws))))))
+      tells-field q g fine t (LastTwo a) (LastOne a)
+      (λ b v vs l m. (m .0, subst fine (sym (m .1)) l, m .2, λ i. g (sym (m .1) i) ∷ m .3 i))
+      (λ v vs l. (v .1, h (v .2) ∷ [], l .1, l .3, (l .0, refl, l .2, refl)))
+      ((a, b₀ .0, c₀ .0), g (b₀ .0) ∷ (h (c₀ .0) ∷ []), (refl, b₀ .1, c₀ .1, refl)) 3 (others ws) _
+      (λ b.
+      tells-field r h good u (LastOne a b) (LastNone a b)
+      (λ c v vs l m. (
+        ap (λ (x : A × B × C). x .0) (m .0),
+        ap (λ (x : A × B × C). x .1) (m .0),
+        subst (λ (x : A × B × C). good (x .2)) (sym (m .0)) l,
+        λ i. h (sym (m .0) i .2) ∷ m .1 i,
+      ))
+      (λ v vs l. (v .2, [], l .2, l .3, ((λ i. (l .0 i, l .1 i, v .2)), refl)))
+      ((a, b, c₀ .0), h (c₀ .0) ∷ [], (refl, refl, c₀ .1, refl)) 4 (others (others ws)) _
+      (λ c. tells-end 5 (a, b, c) (others (others (others ws))))))
 
 -- a field of a value's text says the value
 said-back : {A : Type 0} (form : Bytes → Option A) (n : ℕ) (w : Bytes) (a : A) → form w ≡ Some a → (w ≡ [] → ⊥) → said form n w ≡ Ok a
