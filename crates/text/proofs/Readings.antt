@@ -52,7 +52,7 @@ Line c ws = Short c × (ws ≡ written c)
 module _ {T : Type 0} (L : T → List Bytes → Type 0) (P : List Bytes → Result T Unreadable) (make : T → Call) (x : ℕ)
     (tells : (ws : List Bytes) → Tells L 2 ws (P ws))
     (enter : (t : T) (vs : List Bytes) → L t vs → Line (make t) ((x ∷ []) ∷ vs))
-    (back : (c : Call) (vs : List Bytes) → Short c → (x ∷ []) ∷ vs ≡ written c → andThen (P vs) (λ t. Ok (make t)) ≡ Ok c) where
+    (is : (vs : List Bytes) → byLetter x vs ≡ andThen (P vs) (λ t. Ok (make t))) where
   -- fields that a call's line has after the letter are well formed
   leaves : (c : Call) (vs : List Bytes) (r : Result T Unreadable) → Tells L 2 vs r → andThen r (λ t. Ok (make t)) ≡ Ok c → (t : T) × L t vs
   leaves c vs (Ok t) h e = (t, h)
@@ -63,17 +63,37 @@ module _ {T : Type 0} (L : T → List Bytes → Type 0) (P : List Bytes → Resu
   never k ws (v ∷ vs) c h l e =
       let y : x ∷ [] ≡ v = cc in
       let z : take (suc k) ws ≡ take (suc k) vs = cc in
-      let m = leaves c vs (P vs) (tells vs) (back c vs (l .0) (ap (λ w. w ∷ vs) y ∙ l .1)) in
+      let m = leaves c vs (P vs) (tells vs) (sym (is vs) ∙ (ap (λ w. reading (w ∷ vs)) y ∙ (ap reading (l .1) ∙ reads-back c (l .0)))) in
       h (m .0, vs, m .1, z)
 
-  tells-line : (ws : List Bytes) → Tells Line 1 ((x ∷ []) ∷ ws) (andThen (P ws) (λ t. Ok (make t)))
-  tells-line ws = by (P ws) (tells ws)
+  tells-line : (ws : List Bytes) → Tells Line 1 ((x ∷ []) ∷ ws) (byLetter x ws)
+  tells-line ws = subst (Tells Line 1 ((x ∷ []) ∷ ws)) (sym (is ws)) (by (P ws) (tells ws))
     where
       by : (r : Result T Unreadable) → Tells L 2 ws r → Tells Line 1 ((x ∷ []) ∷ ws) (andThen r (λ t. Ok (make t)))
       by (Ok t) h = enter t ws h
       by (Err e) h =
           let s = h .2 in
           (suc (h .0), omega (arith, h .1), (make (s .0), (x ∷ []) ∷ s .1, enter (s .0) (s .1) (s .2), ap (λ w. (x ∷ []) ∷ w) (s .3)), λ u. never (h .0) ws (u .1) (u .0) (h .3) (u .2) (u .3))
+
+-- a line of one letter and two fields
+two-line : {A B : Type 0} {p : Bytes → Option A} {q : Bytes → Option B} {f : A → Bytes} {g : B → Bytes} {ok : A → Type 0} {fine : B → Type 0}
+    (s : Spells p f ok) (t : Spells q g fine) (make : A × B → Call) (x : ℕ)
+    → ((vs : List Bytes) → byLetter x vs ≡ andThen (two p q vs) (λ v. Ok (make v)))
+    → ((v : A × B) → ok (v .0) × fine (v .1) → Short (make v))
+    → ((v : A × B) → (x ∷ []) ∷ (f (v .0) ∷ (g (v .1) ∷ [])) ≡ written (make v))
+    → (ws : List Bytes) → Tells Line 1 ((x ∷ []) ∷ ws) (byLetter x ws)
+two-line {p = p} {q = q} s t make x is short writes ws =
+    tells-line (Both s t) (two p q) make x (tells-two s t) (λ v vs h. (short v (h .0, h .1), ap (λ us. (x ∷ []) ∷ us) (h .2) ∙ writes v)) is ws
+
+-- and three
+three-line : {A B C : Type 0} {p : Bytes → Option A} {q : Bytes → Option B} {r : Bytes → Option C} {f : A → Bytes} {g : B → Bytes} {h : C → Bytes}
+    {ok : A → Type 0} {fine : B → Type 0} {good : C → Type 0} (s : Spells p f ok) (t : Spells q g fine) (u : Spells r h good) (make : A × B × C → Call) (x : ℕ)
+    → ((vs : List Bytes) → byLetter x vs ≡ andThen (three p q r vs) (λ v. Ok (make v)))
+    → ((v : A × B × C) → ok (v .0) × fine (v .1) × good (v .2) → Short (make v))
+    → ((v : A × B × C) → (x ∷ []) ∷ (f (v .0) ∷ (g (v .1) ∷ (h (v .2) ∷ []))) ≡ written (make v))
+    → (ws : List Bytes) → Tells Line 1 ((x ∷ []) ∷ ws) (byLetter x ws)
+three-line {p = p} {q = q} {r = r} s t u make x is short writes ws =
+    tells-line (All s t u) (three p q r) make x (tells-three s t u) (λ v vs h. (short v (h .0, h .1, h .2), ap (λ us. (x ∷ []) ∷ us) (h .3) ∙ writes v)) is ws
 
 -- the letter of a call's line
 abbrev letterOf : Call → ℕ
@@ -121,25 +141,16 @@ choose x y ws r s h k =
 
 by-letter : (x : ℕ) (ws : List Bytes) → Tells Line 1 ((x ∷ []) ∷ ws) (byLetter x ws)
 by-letter x ws =
-    choose x 75 ws _ _
-    (tells-line (Both spells-number spells-number) (two numeral numeral) (λ t. EnterFact (fact.Is (record { 0 = t .0 }) (record { 0 = t .1 }))) 75
-    (tells-two spells-number spells-number) (λ t vs h. ((h .0, h .1), ap (λ w. (75 ∷ []) ∷ w) (h .2))) (λ c vs l e. ap reading e ∙ reads-back c l) ws) (λ n₀.
-    choose x 76 ws _ _
-    (tells-line (All spells-number spells-number spells-number) (three numeral numeral numeral)
-    (λ t. EnterFact (fact.Joins (record { 0 = t .0 }) (record { 0 = t .1 }) (record { 0 = t .2 }))) 76
-    (tells-three spells-number spells-number spells-number) (λ t vs h. ((h .0, h .1, h .2), ap (λ w. (76 ∷ []) ∷ w) (h .3))) (λ c vs l e. ap reading e ∙ reads-back c l) ws) (λ n₁.
-    choose x 82 ws _ _
-    (tells-line (Both spells-mark spells-mark) (two markForm markForm) (λ t. EnterRule (Inclusion (t .0) (t .1))) 82
-    (tells-two spells-mark spells-mark) (λ t vs h. ((h .0, h .1), ap (λ w. (82 ∷ []) ∷ w) (h .2))) (λ c vs l e. ap reading e ∙ reads-back c l) ws) (λ n₂.
-    choose x 78 ws _ _
-    (tells-line (Both spells-mark spells-mark) (two markForm markForm) (λ t. EnterRule (Exclusion (t .0) (t .1))) 78
-    (tells-two spells-mark spells-mark) (λ t vs h. ((h .0, h .1), ap (λ w. (78 ∷ []) ∷ w) (h .2))) (λ c vs l e. ap reading e ∙ reads-back c l) ws) (λ n₃.
-    choose x 83 ws _ _
-    (tells-line (All spells-mark spells-role spells-kind) (three markForm roleForm kindForm) (λ t. EnterRule (Required (t .0) (t .1) (t .2))) 83
-    (tells-three spells-mark spells-role spells-kind) (λ t vs h. ((h .0, h .1, h .2), ap (λ w. (83 ∷ []) ∷ w) (h .3))) (λ c vs l e. ap reading e ∙ reads-back c l) ws) (λ n₄.
-    choose x 72 ws _ _
-    (tells-line (Both spells-role spells-role) (two roleForm roleForm) (λ t. EnterRule (RoleInclusion (t .0) (t .1))) 72
-    (tells-two spells-role spells-role) (λ t vs h. ((h .0, h .1), ap (λ w. (72 ∷ []) ∷ w) (h .2))) (λ c vs l e. ap reading e ∙ reads-back c l) ws) (λ n₅.
+    let n = spells-number in
+    let m = spells-mark in
+    let r = spells-role in
+    let k = spells-kind in
+    choose x 75 ws _ _ (two-line n n (λ v. EnterFact (fact.Is (record { 0 = v .0 }) (record { 0 = v .1 }))) 75 (λ _. refl) (λ _ l. l) (λ _. refl) ws) (λ n₀.
+    choose x 76 ws _ _ (three-line n n n (λ v. EnterFact (fact.Joins (record { 0 = v .0 }) (record { 0 = v .1 }) (record { 0 = v .2 }))) 76 (λ _. refl) (λ _ l. l) (λ _. refl) ws) (λ n₁.
+    choose x 82 ws _ _ (two-line m m (λ v. EnterRule (Inclusion (v .0) (v .1))) 82 (λ _. refl) (λ _ l. l) (λ _. refl) ws) (λ n₂.
+    choose x 78 ws _ _ (two-line m m (λ v. EnterRule (Exclusion (v .0) (v .1))) 78 (λ _. refl) (λ _ l. l) (λ _. refl) ws) (λ n₃.
+    choose x 83 ws _ _ (three-line m r k (λ v. EnterRule (Required (v .0) (v .1) (v .2))) 83 (λ _. refl) (λ _ l. l) (λ _. refl) ws) (λ n₄.
+    choose x 72 ws _ _ (two-line r r (λ v. EnterRule (RoleInclusion (v .0) (v .1))) 72 (λ _. refl) (λ _ l. l) (λ _. refl) ws) (λ n₅.
     wrong-letter ((x ∷ []) ∷ ws) (λ c e. let z : x ≡ letterOf c = cc in other-letter x (n₀, n₁, n₂, n₃, n₄, n₅) c z)))))))
 
 tells-reading : (ws : List Bytes) → Tells Line 1 ws (reading ws)

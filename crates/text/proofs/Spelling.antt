@@ -146,16 +146,21 @@ abbrev roleBack : Role → Lettered
 roleBack (Forward link) = record { letter = 102; number = link .0 }
 roleBack (Backward link) = record { letter = 98; number = link .0 }
 
-role-turn : (t : Lettered) (a : Role) → roleOf (Some t) ≡ Some a → roleBack a ≡ t
-role-turn t a e =
+-- a letter f or b is a role's, also where the role is part of something
+side-turn : {A : Type 0} (with-role : Role → A) (back : A → Lettered) → ((r : Role) → back (with-role r) ≡ roleBack r) → (t : Lettered) (a : A)
+    → cond (eqb (t .letter) 102) (Some (with-role (Forward (record { 0 = t .number })))) (cond (eqb (t .letter) 98) (Some (with-role (Backward (record { 0 = t .number })))) None) ≡ Some a
+    → back a ≡ t
+side-turn with-role back same t a e =
     ⊎-elim
-    (λ p. let l = eqb-true (t .letter) 102 (p .0) in ap roleBack (sym (p .1)) ∙ (λ i. record { letter = sym l i; number = t .number }))
+    (λ p. from (Forward (record { 0 = t .number })) (p .1) ∙ (λ i. record { letter = sym (eqb-true (t .letter) 102 (p .0)) i; number = t .number }))
     (λ f.
-    let p = cond-some (eqb (t .letter) 98) (Some (Backward (record { 0 = t .number }))) a f in
-    let l = eqb-true (t .letter) 98 (p .0) in
-    let k : Backward (record { 0 = t .number }) ≡ a = cc in
-    ap roleBack (sym k) ∙ (λ i. record { letter = sym l i; number = t .number }))
-    (cond-either (eqb (t .letter) 102) (Forward (record { 0 = t .number })) (cond (eqb (t .letter) 98) (Some (Backward (record { 0 = t .number }))) None) a e)
+    let p = cond-some (eqb (t .letter) 98) (Some (with-role (Backward (record { 0 = t .number })))) a f in
+    let k : with-role (Backward (record { 0 = t .number })) ≡ a = cc in
+    from (Backward (record { 0 = t .number })) k ∙ (λ i. record { letter = sym (eqb-true (t .letter) 98 (p .0)) i; number = t .number }))
+    (cond-either (eqb (t .letter) 102) (with-role (Forward (record { 0 = t .number }))) (cond (eqb (t .letter) 98) (Some (with-role (Backward (record { 0 = t .number })))) None) a e)
+  where
+    from : (r : Role) → with-role r ≡ a → back a ≡ roleBack r
+    from r k = ap back (sym k) ∙ same r
 
 role-says : (a : Role) → roleOf (Some (roleBack a)) ≡ Some a
 role-says (Forward link) = refl
@@ -175,32 +180,18 @@ role-small (Backward link) l = l
 
 pub spells-role : Spells roleForm roleText ShortRole
 spells-role =
-    spells-lettered roleOf roleText ShortRole roleBack refl role-turn role-says role-writes role-short role-small (Forward (record { 0 = 0 }), omega arith)
+    spells-lettered roleOf roleText ShortRole roleBack refl (side-turn (λ r. r) roleBack (λ r. refl)) role-says role-writes role-short role-small (Forward (record { 0 = 0 }), omega arith)
 
 -- a mark
 abbrev markBack : Mark → Lettered
 markBack (Is kind) = record { letter = 107; number = kind .0 }
 markBack (Has role) = roleBack role
 
--- a letter that is not k is a role's
-mark-role : (t : Lettered) (a : Mark)
-    → cond (eqb (t .letter) 102) (Some (Has (Forward (record { 0 = t .number })))) (cond (eqb (t .letter) 98) (Some (Has (Backward (record { 0 = t .number })))) None) ≡ Some a
-    → markBack a ≡ t
-mark-role t a e =
-    ⊎-elim
-    (λ p. let l = eqb-true (t .letter) 102 (p .0) in ap markBack (sym (p .1)) ∙ (λ i. record { letter = sym l i; number = t .number }))
-    (λ f.
-    let p = cond-some (eqb (t .letter) 98) (Some (Has (Backward (record { 0 = t .number })))) a f in
-    let l = eqb-true (t .letter) 98 (p .0) in
-    let k : Has (Backward (record { 0 = t .number })) ≡ a = cc in
-    ap markBack (sym k) ∙ (λ i. record { letter = sym l i; number = t .number }))
-    (cond-either (eqb (t .letter) 102) (Has (Forward (record { 0 = t .number }))) (cond (eqb (t .letter) 98) (Some (Has (Backward (record { 0 = t .number })))) None) a e)
-
 mark-turn : (t : Lettered) (a : Mark) → markOf (Some t) ≡ Some a → markBack a ≡ t
 mark-turn t a e =
     ⊎-elim
     (λ p. let l = eqb-true (t .letter) 107 (p .0) in ap markBack (sym (p .1)) ∙ (λ i. record { letter = sym l i; number = t .number }))
-    (mark-role t a)
+    (side-turn Has markBack (λ r. refl) t a)
     (cond-either (eqb (t .letter) 107) (Is (record { 0 = t .number }))
     (cond (eqb (t .letter) 102) (Some (Has (Forward (record { 0 = t .number })))) (cond (eqb (t .letter) 98) (Some (Has (Backward (record { 0 = t .number })))) None)) a e)
 
