@@ -6,3 +6,4 @@ pub mod Lines
 pub mod Pages
 pub mod Runs
 pub mod Tokens
+pub mod Written

@@ -3,6 +3,7 @@ ghost use mathlib.Core.Path.{_≡_};
 ghost use Rattle.text.specs.Lines.{fields as fieldsOf};
 ghost use Rattle.text.specs.Tokens.{left};
 ghost use Rattle.text.specs.Grammar.{two, three, byLetter, reading};
+ghost use Rattle.text.specs.Written.{Means};
 use crate::faults::Unreadable;
 use crate::fields::Fields;
 use crate::forms::FieldForm;
@@ -82,7 +83,8 @@ fn read_rest(letter: u8, fields: &mut Fields) -> Result<Call, Unreadable>
 
 /// The call that a line means, or its first misformed, missing or extra field.
 pub fn read_line(line: &[u8]) -> Result<Call, Unreadable>
-    ensures { λ r. ⌜ r ≡ reading (fieldsOf (now (line .entry))) ⌝ }
+    ensures value { λ r. ⌜ r ≡ reading (fieldsOf (now (line .entry))) ⌝ }
+    ensures grammar { λ r. ⌜ Means (now (line .entry)) r ⌝ }
 {
     let mut fields = Fields::new(line);
     let letter: Letter = fields.read()?;
