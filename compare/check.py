@@ -13,7 +13,6 @@ from register import run
 SEED, TEXTS = 20261117, 300
 FIELDS = [b"K", b"L", b"R", b"N", b"S", b"H", b"Q", b"", b"0", b"1", b"01", b"9", b"31", b"32", b"63", b"64", b"1023", b"1024",
           b"9999", b"10000", b"k1", b"k2", b"k63", b"k64", b"f1", b"f2", b"f31", b"f32", b"b1", b"b2", b"b32", b"k", b"v0", b"-1", b"\xff"]
-SORTS = {"n": 1, "m": 3, "r": 2, "k": 1}
 FORMS = {b"K": "nn", b"L": "nnn", b"R": "mm", b"N": "mm", b"S": "mrk", b"H": "rr"}
 
 
@@ -40,6 +39,14 @@ def check(program, text, name):
         sys.exit(f"{name}: standard error has {done.stderr!r}")
 
 
+def check_example(program):
+    folder = os.path.join(os.path.dirname(os.path.abspath(__file__)), "..", "examples")
+    text = open(os.path.join(folder, "league.txt"), "rb").read()
+    expected = open(os.path.join(folder, "league.out"), "rb").read()
+    if subprocess.run([program], input=text, capture_output=True).stdout != expected:
+        sys.exit("the example prints something else than examples/league.out")
+
+
 def main():
     program, source = os.path.abspath(sys.argv[1]), random.Random(SEED)
     check(program, b"", "no input")
@@ -48,6 +55,7 @@ def main():
     check(program, b"K 1 0\n" * 5000, "30000 bytes of lines")
     check(program, b"K 1 0\n" * 5461 + b"K ", "32768 bytes")
     check(program, b"\n" * 3000, "output longer than the page")
+    check_example(program)
     for number in range(TEXTS):
         text = b"\n".join(line(source) for _ in range(source.randrange(0, 60)))
         check(program, text + source.choice([b"", b"\n"]), f"text {number}")
