@@ -1,0 +1,3 @@
+//! Graphs: which nodes paths of edges lead to.
+pub mod contract;
+pub mod search;
