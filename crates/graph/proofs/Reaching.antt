@@ -122,3 +122,25 @@ fewer-left finished i l e =
     sumBy-set (λ x. cond (not x) 1 0) finished i true false l in
     let n : cond {A = ℕ} (not (getD finished i false)) 1 0 ≡ 1 = rw e refl in
     omega arith
+
+-- what is reached from a set of one node
+pub reached-from-one : (edge : ℕ → ℕ → Bool) (n node k : ℕ) (b : Bool) → node < n
+    → Tells b (Reached edge (set (replicate n false) node true) k) → Tells b (Star (Step edge n) node k)
+reached-from-one edge n node k b l t = record {
+  sound = λ h.
+      let r = t .sound h in
+      let p : Star (Step edge n) (r .0) k = subst (λ (m : ℕ). Star (Step edge m) (r .0) k) long (r .1 .1) in
+      subst (λ (a : ℕ). Star (Step edge n) a k)
+      (⊎-elim (λ e. e) (λ none. absurd (none-in n (r .0) none)) (more-in (replicate n false) node (r .0) (r .1 .0)))
+      p;
+  complete = λ p.
+      t .complete (node, (own, subst (λ (m : ℕ). Star (Step edge m) node k) (sym long) p));
+}
+  where
+    long : length (set (replicate n false) node true) ≡ n
+    long = length-set (replicate n false) node true ∙ length-replicate n false
+
+    own : In (set (replicate n false) node true) node
+    own =
+        same-in (getD (set (replicate n false) node true) node false) true
+        (getD-set-same (replicate n false) node true false (rw (length-replicate n false) l)) tt

@@ -1,3 +1,5 @@
 //! Graphs: which nodes paths of edges lead to.
+pub mod closing;
 pub mod contract;
 pub mod search;
+pub mod table;

@@ -4,7 +4,7 @@ ghost use mathlib.Core.Bool.{false};
 ghost use Prim.Native.Nat.{ℕ, _<_, _≤_};
 ghost use lib.ListN.{length, getD};
 ghost use Rattle.std.specs.Options.{Cases as BySome};
-ghost use Rattle.graph.specs.Paths.{In, Tells, Reached};
+ghost use Rattle.graph.specs.Paths.{In, Tells, Star, Step, Reached};
 use crate::contract::Graph;
 
 /// The first node of a set that is not finished.
@@ -31,4 +31,14 @@ pub fn reach<G: Graph<N>, const N: usize>(graph: &G, from: [bool; N]) -> [bool; 
         set = graph.with_successors(node, set);
     }
     set
+}
+
+/// The nodes that paths of edges lead to from one node.
+pub fn reach_from<G: Graph<N>, const N: usize>(graph: &G, node: usize) -> [bool; N]
+    requires { ⌜ node < N ⌝ }
+    ensures { λ r. ⌜ ((k : ℕ) → Tells (getD r k false) (Star (Step (G·Graph .edge (now (graph .entry))) N) node k)) ⌝ }
+{
+    let mut from = [false; N];
+    from[node] = true;
+    reach(graph, from)
 }
