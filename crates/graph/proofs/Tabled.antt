@@ -2,12 +2,13 @@
 use mathlib.Core.Path.{_≡_, sym, ap, subst, _∙_}
 use mathlib.Core.List.{List, []}
 use mathlib.Core.Logic.{⊎-elim}
-use mathlib.Core.Bool.{Bool, false}
+use mathlib.Core.Bool.{Bool, false, cond}
 use Prim.Native.Nat.{ℕ, _+_, _<_, _≤_}
 use native.Mathlib.Omega.{arith}
+use lib.Dec.{ltb}
 use lib.ListN.{length, getD, set, replicate, length-set, length-replicate}
 use Rattle.std.proofs.shelf.Lists.{getD-set-same, getD-set-other, getD-replicate, getD-past}
-use Rattle.std.proofs.shelf.Tests.{cases-eq}
+use Rattle.std.proofs.shelf.Tests.{cases-eq, cases-lt, lt-ltb, le-ltb, cond-true, cond-false}
 use Rattle.graph.specs.Paths.{Step, Star, Tells}
 use Rattle.graph.specs.Tables.{leads}
 
@@ -54,3 +55,11 @@ module _ (edge : ℕ → ℕ → Bool) (n : ℕ) where
 
       other : (a : ℕ) → (a ≡ i → ⊥) → getD (set rows i row) a [] ≡ getD rows a []
       other a ne = getD-set-other rows i a row [] ne
+
+-- the flags below a number that is not less than how many there are, are all the flags
+pub read-whole : (row : List Bool) (i k : ℕ) → length row ≤ i → cond (ltb k i) (getD row k false) false ≡ getD row k false
+read-whole row i k l =
+    ⊎-elim
+    (λ h. cond-true (ltb k i) (getD row k false) false (lt-ltb k i h))
+    (λ h. let m : length row ≤ k = omega arith in cond-false (ltb k i) (getD row k false) false (le-ltb k i h) ∙ sym (getD-past row k false m))
+    (cases-lt k i)

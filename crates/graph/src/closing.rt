@@ -1,6 +1,8 @@
 //! Making a reach table, by a search from each node, and reading it.
 ghost use mathlib.Core.Path.{_≡_};
+ghost use mathlib.Core.Bool.{false};
 ghost use Prim.Native.Nat.{ℕ, _<_};
+ghost use lib.ListN.{getD};
 ghost use Rattle.graph.specs.Paths.{Tells, Star, Step};
 ghost use Rattle.graph.specs.Tables.{leads};
 use crate::contract::Graph;
@@ -17,6 +19,14 @@ impl<const N: usize> ReachTable<N> {
             rows[node] = reach_from(graph, node);
         }
         ReachTable { rows }
+    }
+
+    /// The nodes that paths lead to from a node of the graph.
+    pub fn row(&self, from: usize) -> [bool; N]
+        requires { ⌜ from < N ⌝ }
+        ensures { λ r. ⌜ ((to : ℕ) → getD r to false ≡ leads (now (self .entry) .rows) from to) ⌝ }
+    {
+        self.rows[from]
     }
 
     /// Whether a path leads from a node to a node.
