@@ -7,4 +7,5 @@ pub mod Marked
 pub mod Noting
 pub mod Numbered
 pub mod Paired
+pub mod RoleRows
 pub mod Stepped

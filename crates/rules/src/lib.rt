@@ -6,4 +6,5 @@ mod numbering;
 pub mod pair;
 mod pairs;
 mod ranges;
+mod role_graph;
 pub mod table;
