@@ -21,7 +21,7 @@ use Rattle.rules.specs.Consequences.{roleListed, markListed, toldBelow, toldIm
 use Rattle.rules.specs.Follows.{RoleEdge, Below, MarkEdge, Implies}
 use Rattle.rules.specs.Marks.{sameRole, sameMark, markCode}
 use Rattle.rules.specs.RuleSet.{RuleSet, Proper}
-use Rattle.rules.specs.Steps.{roleGives, roleStep, markGives, markStep}
+use Rattle.rules.specs.Steps.{roleGives, roleStep, entryOf, markGives, markStep}
 use Rattle.rules.specs.declared.consequences.Consequences.{Consequences}
 use Rattle.rules.proofs.Coded.{code-role, role-of-code, code-below, small-mark, large-mark}
 use Rattle.rules.proofs.Marked.{T-true, true-T, role-self, role-eq, mark-self, mark-eq}
@@ -112,12 +112,11 @@ module _ (s : RuleSet) (proper : Proper s) where
 
 -- both tables together
 module _ (s : RuleSet) (proper : Proper s) (c : Consequences) where
-  -- what the table of roles has of two roles
-  abbrev pub entryBelow : Role → Role → Bool
-  entryBelow R S = leads (c .roles .rows) (code R) (code S)
+  abbrev entryBelow : Role → Role → Bool
+  entryBelow = entryOf (c .roles .rows)
 
   module _ (roles : (a b : ℕ) → a < 128 → Tells (leads (c .roles .rows) a b) (Star (Step (roleStep s) 128) a b))
-      (marks : (a b : ℕ) → a < 192 → Tells (leads (c .marks .rows) a b) (Star (Step (markStep s entryBelow) 192) a b)) where
+      (marks : (a b : ℕ) → a < 192 → Tells (leads (c .marks .rows) a b) (Star (Step (markStep s (entryOf (c .roles .rows))) 192) a b)) where
     role-listed : (R S : Role) → (roleListed R && roleListed S) ≡ true → RoleFits R × RoleFits S
     role-listed R S e =
         let w = and-parts (roleListed R) (roleListed S) e in

@@ -3,6 +3,7 @@ pub mod Flagged
 pub mod Followed
 pub mod Gained
 pub mod Kept
+pub mod MarkRows
 pub mod Marked
 pub mod Noting
 pub mod Numbered

@@ -27,22 +27,20 @@ use Rattle.rules.specs.declared.table.RuleTable.{RuleTable}
 use Rattle.rules.proofs.Coded.{code-role, even-role, odd-role, link-below, role-within-code, same-role-code, code-below}
 use Rattle.rules.proofs.Marked.{same-turned}
 
--- one flag more in a set
-pub set-or : (xs : List Bool) (i k : ℕ) → i < length xs → getD (set xs i true) k false ≡ (getD xs k false || eqb k i)
-set-or xs i k l =
-    ⊎-elim
-    (λ e. (ap (λ (n : ℕ). getD (set xs i true) n false) e ∙ getD-set-same xs i true false l) ∙ sym (or-right (getD xs k false) (eqb k i) (eq-eqb k i e)))
-    (λ ne. getD-set-other xs i k true false ne ∙ rw (ne-eqb k i ne) (sym (or-none (getD xs k false))))
-    (cases-eq k i)
-  where
-    or-none : (b : Bool) → (b || false) ≡ b
-    or-none true = refl
-    or-none false = refl
+-- a row that begins at the first node
+pub from-first : (row : List Bool) (k : ℕ) → (leb 0 k && getD row (k - 0) false) ≡ getD row k false
+from-first row k =
+    let e : k - 0 ≡ k = omega arith in
+    rw (le-leb 0 k (omega arith)) (ap (λ (n : ℕ). getD row n false) e)
 
 -- nothing more in a set
 pub or-nothing : (x y : Bool) → y ≡ false → x ≡ (x || y)
 or-nothing true y e = refl
 or-nothing false y e = sym e
+
+pub or-none : (b : Bool) → (b || false) ≡ b
+or-none true = refl
+or-none false = refl
 
 -- a role that rules may name is no hidden link
 low-hidden : (s : RuleSet) (R S : Role) → linkOf R .0 < 32 → hiddenUnder s R S ≡ false
@@ -65,7 +63,40 @@ module _ (t : RuleTable) (i k : ℕ) where
       rw (le-ltb k 64 h)
       (sym (getD-past (getD (t .roles .cells) i []) k false (omega (arith, t .roles .wide i l)))))
       (cases-lt k 64)))
+
+  -- a hidden link stands under the role of its pair, on the same side
+  hidden-row : 64 ≤ i → roleStep (means t) i k ≡ hiddenUnder (means t) (roleOf i) (roleOf k)
+  hidden-row l = rw (role-rule, le-ltb i 64 l) refl
+
+  -- the test of a hidden link, by the pair that it stands for
+  hidden-test : 64 ≤ i → (o : Option Pair) → o ≡ nth (means t .pairs) ((i - 64) / 2)
+      → hiddenUnder (means t) (roleOf i) (roleOf k) ≡ ofRole o (onSide (roleOf k) i)
+  hidden-test l o e =
+      ⊎-elim
+      (λ h.
+      let z : i % 2 ≡ 0 = omega arith in
+      let m : 32 ≤ i / 2 = omega arith in
+      let n : i / 2 - 32 ≡ (i - 64) / 2 = omega arith in
+      ap (λ (R : Role). hiddenUnder (means t) R (roleOf k)) (even-role i z)
+      ∙ rw (le-leb 32 (i / 2) m, n, eq-eqb (i % 2) 0 z) (ap (λ (x : Option Pair). ofRole x (roleOf k)) (sym e)))
+      (λ h.
+      let z : i % 2 ≡ 1 = omega arith in
+      let m : 32 ≤ i / 2 = omega arith in
+      let n : i / 2 - 32 ≡ (i - 64) / 2 = omega arith in
+      ap (λ (R : Role). hiddenUnder (means t) R (roleOf k)) (odd-role i z)
+      ∙ rw (le-leb 32 (i / 2) m, n, ne-eqb (i % 2) 0 (omega arith)) (ap (λ (x : Option Pair). ofRole x (inverse (roleOf k))) (sym e)))
+      (cases-lt (i % 2) 1)
+
+  pub no-pair-row : 64 ≤ i → None ≡ nth (means t .pairs) ((i - 64) / 2) → roleStep (means t) i k ≡ false
+  no-pair-row l e = hidden-row l ∙ hidden-test l None e
+
+  pub pair-row : (p : Pair) → 64 ≤ i → Some p ≡ nth (means t .pairs) ((i - 64) / 2)
+      → eqb k (code (onSide (p .role) i)) ≡ roleStep (means t) i k
+  pair-row p l e = sym (hidden-row l ∙ (hidden-test l (Some p) e ∙ (turned ∙ same-role-code (onSide (p .role) i) k)))
     where
-      or-none : (b : Bool) → (b || false) ≡ b
-      or-none true = refl
-      or-none false = refl
+      turned : sameRole (p .role) (onSide (roleOf k) i) ≡ sameRole (onSide (p .role) i) (roleOf k)
+      turned =
+          ⊎-elim
+          (λ h. rw (eq-eqb (i % 2) 0 (omega arith)) refl)
+          (λ h. rw (ne-eqb (i % 2) 0 (omega arith)) (sym (same-turned (p .role) (roleOf k))))
+          (cases-lt (i % 2) 1)

@@ -2,12 +2,13 @@
 ghost use mathlib.Core.Path.{_≡_};
 ghost use mathlib.Core.Bool.{false, _||_};
 ghost use Prim.Native.Nat.{ℕ, _<_, _≤_};
-ghost use lib.ListN.{getD};
+ghost use lib.ListN.{length, getD};
 ghost use Rattle.rules.specs.Codes.{onSide};
 ghost use Rattle.rules.specs.Steps.{roleStep};
 ghost use Rattle.rules.specs.Tables.{means};
 use crate::table::RuleTable;
 use graph::contract::Graph;
+use graph::rows::add_node;
 use graph::rows::add_row;
 use league::roles::Role;
 
@@ -18,38 +19,33 @@ fn on_side(role: Role, code: usize) -> Role
     if code % 2 == 0 { role } else { role.inverse() }
 }
 
-/// A set of roles, with those above a role that rules may name.
-fn with_wider(table: &RuleTable, node: usize, set: [bool; 128]) -> [bool; 128]
+/// Adds the roles above a role that rules may name.
+fn add_wider(table: &RuleTable, node: usize, set: &mut [bool])
     requires { ⌜ node < 64 ⌝ }
-    ensures { λ r. ⌜ ((k : ℕ) → getD r k false ≡ (getD set k false || roleStep (means (now (table .entry))) node k)) ⌝ }
+    ensures { λ _. ⌜ ((k : ℕ) → k < length (now (set .entry)) → getD (now (set .exit)) k false ≡ (getD (now (set .entry)) k false || roleStep (means (now (table .entry))) node k)) ⌝ }
 {
-    let mut set = set;
-    add_row(&table.roles.row(node), &mut set);
-    set
+    add_row(&table.roles.row(node), 0, set);
 }
 
-/// A set of roles, with the role of the pair that a hidden link stands for.
-fn with_pair_role(table: &RuleTable, node: usize, set: [bool; 128]) -> [bool; 128]
+/// Adds the role of the pair that a hidden link stands for.
+fn add_pair_role(table: &RuleTable, node: usize, set: &mut [bool])
     requires { ⌜ 64 ≤ node ⌝ }
-    ensures { λ r. ⌜ ((k : ℕ) → getD r k false ≡ (getD set k false || roleStep (means (now (table .entry))) node k)) ⌝ }
+    ensures { λ _. ⌜ ((k : ℕ) → k < length (now (set .entry)) → getD (now (set .exit)) k false ≡ (getD (now (set .entry)) k false || roleStep (means (now (table .entry))) node k)) ⌝ }
 {
-    let mut set = set;
     let Some(pair) = table.pair((node - 64) / 2) else {
-        return set;
+        return;
     };
-    set[on_side(pair.role, node).code() as usize] = true;
-    set
+    add_node(on_side(pair.role, node).code() as usize, set);
 }
 
-impl Graph<128> for RuleTable as RoleGraph {
+impl Graph for RuleTable as RoleGraph {
     ghost edge = { λ t i j. roleStep (means t) i j };
 
-    fn with_successors(&self, node: usize, set: [bool; 128]) -> [bool; 128]
-        ensures { λ r. ⌜ ((k : ℕ) → k < 128 → getD r k false ≡ (getD set k false || roleStep (means (now (self .entry))) node k)) ⌝ }
-    {
+    fn add_successors(&self, node: usize, set: &mut [bool]) {
         if node < 64 {
-            return with_wider(self, node, set);
+            add_wider(self, node, set);
+        } else {
+            add_pair_role(self, node, set);
         }
-        with_pair_role(self, node, set)
     }
 }
