@@ -1,7 +1,12 @@
+pub mod Coded
 pub mod Flagged
+pub mod Followed
 pub mod Gained
 pub mod Kept
+pub mod MarkRows
 pub mod Marked
 pub mod Noting
 pub mod Numbered
 pub mod Paired
+pub mod RoleRows
+pub mod Stepped
