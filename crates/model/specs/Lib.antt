@@ -1,2 +1,4 @@
+pub mod Plain
+pub mod Recorded
 pub mod Structures
 pub mod Unravelled

@@ -1,4 +1,5 @@
 //! Structures of numbered elements, in which a question is matched, and models: structures whose elements
 //! are names or are reached from names by steps.
 pub mod model;
+pub mod plain;
 pub mod structure;

@@ -1,0 +1,2 @@
+pub mod PlainLaws
+pub mod Tests
