@@ -1,3 +1,5 @@
+pub mod Canonical
+pub mod Elements
 pub mod Plain
 pub mod Recorded
 pub mod Structures
