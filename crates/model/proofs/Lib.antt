@@ -1,2 +1,7 @@
+pub mod CanonicalLaws
+pub mod Numbers
 pub mod PlainLaws
+pub mod Ranges
+pub mod Roles
+pub mod Steps
 pub mod Tests

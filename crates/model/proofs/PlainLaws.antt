@@ -15,14 +15,15 @@ use Rattle.store.specs.Holding.{Holding, Sound}
 use Rattle.model.specs.Plain.{plainShape, plainForm}
 use Rattle.model.specs.Recorded.{nameOf}
 use Rattle.model.specs.Structures.{Lawful}
-use Rattle.model.proofs.Tests.{and-both, is-true, holds}
+use Rattle.rules.proofs.Marked.{T-true, true-T}
+use Rattle.model.proofs.Tests.{and-both}
 
 module _ (h : Holding) (sound : Sound h) where
   kind-in : (k : Kind) (d : ℕ) → T (h .facts (Is k (nameOf d))) → T (ltb d (h .names))
-  kind-in k d t = and-both (ltb (k .0) 64) _ (holds _ (sound .range _ (is-true _ t))) .1
+  kind-in k d t = and-both (ltb (k .0) 64) _ (true-T _ (sound .range _ (T-true _ t))) .1
 
   link-in : (l : Link) (d e : ℕ) → T (h .facts (Joins l (nameOf d) (nameOf e))) → T (ltb d (h .names)) × T (ltb e (h .names))
-  link-in l d e t = and-both _ _ (and-both (ltb (l .0) 32) _ (holds _ (sound .range _ (is-true _ t))) .1)
+  link-in l d e t = and-both _ _ (and-both (ltb (l .0) 32) _ (true-T _ (sound .range _ (T-true _ t))) .1)
 
   joins-in : (R : Role) (d e : ℕ) → T (plainShape h .joins R d e) → T (ltb d (h .names)) × T (ltb e (h .names))
   joins-in (Forward l) d e t = link-in l d e t

@@ -25,13 +25,13 @@ pub or-right : (a b : Bool) → T b → T (a || b)
 or-right true b h = tt
 or-right false b h = h
 
-pub is-true : (b : Bool) → T b → b ≡ true
-is-true true h = refl
-is-true false h = absurd h
-
 pub is-false : (b : Bool) → (T b → ⊥) → b ≡ false
 is-false true h = absurd (h tt)
 is-false false h = refl
 
-pub holds : (b : Bool) → b ≡ true → T b
-holds b e = subst T (sym e) tt
+-- two tests that tell the same are equal
+pub same-test : (a b : Bool) → (T a → T b) → (T b → T a) → a ≡ b
+same-test true true h g = refl
+same-test true false h g = absurd (h tt)
+same-test false true h g = absurd (g tt)
+same-test false false h g = refl

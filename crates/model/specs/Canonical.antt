@@ -114,11 +114,11 @@ module _ (P : ℕ) (facts : Fact → Bool) (rules : RuleSet) where
     pub presentIs : (d : ℕ) → T (s .present d) ↔ Present (elementOf P d)
     pub kindsAre : (k : Kind) (d : ℕ) → T (s .kind k d) ↔ (Present (elementOf P d) × HasMark (elementOf P d) (Is k))
     pub joinsAre : (R : Role) (d e : ℕ)
-      → T (s .joins R d e) ↔ (Present (elementOf P d) × Present (elementOf P e) × Joined R (elementOf P d) (elementOf P e))
+        → T (s .joins R d e) ↔ (Present (elementOf P d) × Present (elementOf P e) × Joined R (elementOf P d) (elementOf P e))
     pub stepsAre : (d e : ℕ) → T (f .step d e) ↔ (Present (elementOf P d) × Steps (elementOf P d) (elementOf P e))
     pub byIs : (R : Role) (d e : ℕ) → T (f .by R d e) ↔ (T (f .step d e) × By rules R (elementOf P e))
 
 -- the canonical model of recorded facts in range and of rules that a table holds keeps the laws of a model
 abbrev pub CanonicalLawful : Type 0
 CanonicalLawful = (P : ℕ) (facts : Fact → Bool) (rules : RuleSet) (s : Shape) (f : Form)
-  → FactsIn P facts → Proper rules → Decided rules → Completes P facts rules s f → Lawful s f
+    → FactsIn P facts → Proper rules → Decided rules → Completes P facts rules s f → Lawful s f

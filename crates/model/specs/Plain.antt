@@ -11,12 +11,12 @@ use Rattle.model.specs.Structures.{Shape, Form}
 -- where the fact that says so is recorded
 abbrev pub plainShape : Holding → Shape
 plainShape h = record {
-    size = h .names;
-    present = λ d. ltb d (h .names);
-    nameable = h .names;
-    kind = λ k d. h .facts (Is k (nameOf d));
-    joins = λ R d e. h .facts (factOf R (nameOf d) (nameOf e));
-  }
+  size = h .names;
+  present = λ d. ltb d (h .names);
+  nameable = h .names;
+  kind = λ k d. h .facts (Is k (nameOf d));
+  joins = λ R d e. h .facts (factOf R (nameOf d) (nameOf e));
+}
 
 -- no element steps to another
 abbrev pub plainForm : Holding → Form
