@@ -1,4 +1,5 @@
 pub mod CanonicalLaws
+pub mod Completion
 pub mod Numbers
 pub mod PlainLaws
 pub mod Ranges

@@ -28,24 +28,16 @@ use Rattle.rules.proofs.Marked.{turn-turn, T-true, true-T}
 use Rattle.model.specs.Canonical.{Generating, Loop, InLoop, Decided}
 use Rattle.model.specs.Elements.{roleOf}
 use Rattle.model.specs.Recorded.{FactsIn, Given, Recorded, NameHas}
+use Rattle.model.specs.Tabled.{RoleRange, MarkRange}
 use Rattle.model.proofs.Numbers.{role-of-code, code-role}
 use Rattle.model.proofs.Roles.{same-role}
 use Rattle.model.proofs.Tests.{and-both}
 
--- a role of one of the 64 links: those that rules name, and the hidden ones
-abbrev pub In : Role → Type 0
-In R = code R < 128
-
--- a mark that can follow
-abbrev pub MarkRange : Mark → Type 0
-MarkRange (Is k) = KindIn k
-MarkRange (Has R) = In R
-
-pub in-small : (R : Role) → RoleIn R → In R
+pub in-small : (R : Role) → RoleIn R → RoleRange R
 in-small (Forward l) h = omega arith
 in-small (Backward l) h = omega arith
 
-pub in-inverse : (R : Role) → In R → In (inverse R)
+pub in-inverse : (R : Role) → RoleRange R → RoleRange (inverse R)
 in-inverse (Forward l) h = omega arith
 in-inverse (Backward l) h = omega arith
 
@@ -60,26 +52,26 @@ nth-in (q ∷ ps) zero p e = omega arith
 nth-in (q ∷ ps) (suc i) p e = omega (arith, nth-in ps i p e)
 
 module _ (rules : RuleSet) (proper : Proper rules) where
-  hidden-in : (i : ℕ) (R : Role) (k : Kind) → Hides rules i R k → In (Forward (hidden i)) × In (Backward (hidden i)) × In R × KindIn k
+  hidden-in : (i : ℕ) (R : Role) (k : Kind) → Hides rules i R k → RoleRange (Forward (hidden i)) × RoleRange (Backward (hidden i)) × RoleRange R × KindIn k
   hidden-in i R k h =
       let n = nth-in (rules .pairs) i _ h in
       let f = proper .pairsFew in
       let p = proper .pairsIn i _ h in
       (omega arith, omega arith, in-small R (p .0), p .1)
 
-  edge-in : {R S : Role} → RoleEdge rules R S → In R × In S
+  edge-in : {R S : Role} → RoleEdge rules R S → RoleRange R × RoleRange S
   edge-in (RoleEdge.under U V h) = let p = proper .rulesIn _ h in (in-small U (p .0), in-small V (p .1))
   edge-in (RoleEdge.under⁻ U V h) = let p = proper .rulesIn _ h in (in-inverse U (in-small U (p .0)), in-inverse V (in-small V (p .1)))
   edge-in (RoleEdge.hides i U k h) = let p = hidden-in i U k h in (p .0, p .2)
   edge-in (RoleEdge.hides⁻ i U k h) = let p = hidden-in i U k h in (p .1, in-inverse U (p .2))
 
-  pub below-in : {R S : Role} → Below rules R S → In R → In S
+  pub below-in : {R S : Role} → Below rules R S → RoleRange R → RoleRange S
   below-in Star.here i = i
   below-in (Star.then p e) i = edge-in e .1
 
-  pub below-out : {R S : Role} → Below rules R S → (In R → ⊥) → R ≡ S
+  pub below-out : {R S : Role} → Below rules R S → (RoleRange R → ⊥) → R ≡ S
   below-out Star.here n = refl
-  below-out (Star.then {b = U} p e) n = absurd (n (subst In (sym (below-out p n)) (edge-in e .0)))
+  below-out (Star.then {b = U} p e) n = absurd (n (subst RoleRange (sym (below-out p n)) (edge-in e .0)))
 
   -- an edge from a mark in range ends in range, and from another it goes nowhere else
   mark-edge-in : {B C : Mark} → MarkEdge rules B C → (MarkRange B → MarkRange C) × ((MarkRange B → ⊥) → B ≡ C)
@@ -100,10 +92,10 @@ module _ (rules : RuleSet) (proper : Proper rules) where
   role-in (Is k) R = R
   role-in (Has S) R = S
 
-  pub loop-in : (R S : Role) → Loop rules R S → In R × In S
+  pub loop-in : (R S : Role) → Loop rules R S → RoleRange R × RoleRange S
   loop-in R S h = elim (decLt (code R) 128) [
     | yes i ↦ (i, implies-in (h .1) (in-inverse R i))
-    | no n ↦ absurd (h .0 (sym (turn-turn R) ∙ ap inverse (ap (λ M. role-in M R) (implies-out (h .1) (λ i. n (subst In (turn-turn R) (in-inverse _ i)))))))
+    | no n ↦ absurd (h .0 (sym (turn-turn R) ∙ ap inverse (ap (λ M. role-in M R) (implies-out (h .1) (λ i. n (subst RoleRange (turn-turn R) (in-inverse _ i)))))))
   ]
 
   -- a search below n
@@ -117,7 +109,7 @@ module _ (rules : RuleSet) (proper : Proper rules) where
     ]
   ]
 
-  pub some-role : (Q : Role → Type 0) → ((R : Role) → In R → Dec (Q R)) → ((R : Role) → Q R → In R) → Dec ((R : Role) × Q R)
+  pub some-role : (Q : Role → Type 0) → ((R : Role) → RoleRange R → Dec (Q R)) → ((R : Role) → Q R → RoleRange R) → Dec ((R : Role) × Q R)
   some-role Q d i = elim (some-below 128 (λ c. Q (roleOf c)) (λ c h. d (roleOf c) (omega (arith, code-role c)))) [
     | yes p ↦ yes (roleOf (p .0), p .2)
     | no n ↦ no (λ p. n (code (p .0), i (p .0) (p .1), subst Q (sym (role-of-code (p .0))) (p .1)))
@@ -125,13 +117,13 @@ module _ (rules : RuleSet) (proper : Proper rules) where
 
   -- what tables over 128 roles and 64 kinds tell
   pub record Tables : Type 0 where
-    pub below : (R S : Role) → In R → In S → Dec (Below rules R S)
+    pub below : (R S : Role) → RoleRange R → RoleRange S → Dec (Below rules R S)
     pub implies : (B C : Mark) → MarkRange B → MarkRange C → Dec (Implies rules B C)
 
   pub decided : Tables → Decided rules
   decided t = record { loop = loop; inLoop = some-loop }
     where
-      near : (R S : Role) → In R → In S → Dec (Loop rules R S)
+      near : (R S : Role) → RoleRange R → RoleRange S → Dec (Loop rules R S)
       near R S i j = elim (same-role R (inverse S)) [
         | yes e ↦ no (λ h. h .0 e)
         | no n ↦ elim (t .implies (Has (inverse R)) (Has S) (in-inverse R i) j) [
@@ -146,7 +138,7 @@ module _ (rules : RuleSet) (proper : Proper rules) where
         ]
       ]
         where
-          both : (U : Role) → In U → Dec (Below rules (inverse S) U × Below rules R U)
+          both : (U : Role) → RoleRange U → Dec (Below rules (inverse S) U × Below rules R U)
           both U k = elim (t .below (inverse S) U (in-inverse S j) k) [
             | no u ↦ no (λ h. u (h .0))
             | yes a ↦ elim (t .below R U i k) [ no u ↦ no (λ h. u (h .1)) | yes b ↦ yes (a, b) ]
@@ -161,21 +153,23 @@ module _ (rules : RuleSet) (proper : Proper rules) where
       some-loop : (R : Role) → Dec (InLoop rules R)
       some-loop R = some-role (Loop rules R) (λ S _. loop R S) (λ S h. loop-in R S h .1)
 
-module _ (P : ℕ) (facts : Fact → Bool) (rules : RuleSet) (inside : FactsIn P facts) (proper : Proper rules) where
+module _ (P : ℕ) (facts : Fact → Bool) (inside : FactsIn P facts) where
   link-in : (l : Link) (a b : Name) → T (facts (Joins l a b)) → l .0 < 32
   link-in l a b r = ltb→lt (l .0) 32 (and-both (ltb (l .0) 32) _ (true-T _ (inside _ (T-true _ r))) .0)
 
-  partner-in : (a : Name) (R : Role) (b : Name) → Recorded facts R a b → In R
-  partner-in a (Forward l) b r = omega (arith, link-in l a b r)
-  partner-in a (Backward l) b r = omega (arith, link-in l b a r)
+  -- a recorded partner is by a role of a link below 32
+  pub recorded-small : (a : Name) (R : Role) (b : Name) → Recorded facts R a b → code R < 64
+  recorded-small a (Forward l) b r = omega (arith, link-in l a b r)
+  recorded-small a (Backward l) b r = omega (arith, link-in l b a r)
 
-  given-in : (a : Name) {B : Mark} → Given facts a B → MarkRange B
+  pub given-in : (a : Name) {B : Mark} → Given facts a B → MarkRange B
   given-in a (Given.ofKind k g) = ltb→lt (k .0) 64 (and-both (ltb (k .0) 64) _ (true-T _ (inside _ (T-true _ g))) .0)
-  given-in a (Given.partner R b g) = partner-in a R b g
+  given-in a (Given.partner R b g) = omega (arith, recorded-small a R b g)
 
+module _ (P : ℕ) (facts : Fact → Bool) (rules : RuleSet) (inside : FactsIn P facts) (proper : Proper rules) where
   pub name-in : (a : Name) (C : Mark) → NameHas facts rules a C → MarkRange C
-  name-in a C h = implies-in rules proper (h .2) (given-in a (h .1))
+  name-in a C h = implies-in rules proper (h .2) (given-in P facts inside a (h .1))
 
-  pub generating-in : {R : Role} → Generating P facts rules R → In R
+  pub generating-in : {R : Role} → Generating P facts rules R → RoleRange R
   generating-in (Generating.fromName a R s) = name-in a (Has R) (s .1)
   generating-in (Generating.fromRole R S l h) = implies-in rules proper (h .0) (in-inverse R (generating-in l))
