@@ -11,7 +11,7 @@ use Rattle.league.specs.declared.facts.Fact.{Fact}
 use Rattle.league.specs.declared.facts.Name.{Name}
 use Rattle.league.specs.declared.roles.Role.{Role}
 use Rattle.league.specs.declared.roles.Role.the-variants.{Forward, Backward}
-use Rattle.rules.specs.Follows.{Star}
+use Rattle.graph.specs.Paths.{Star}
 use Rattle.rules.specs.RuleSet.{RuleSet, Proper}
 use Rattle.rules.proofs.Marked.{turn-turn}
 use Rattle.model.specs.Canonical.{Present, Steps, By, Joined, NamesJoined, Decided, Completes, CanonicalLawful}

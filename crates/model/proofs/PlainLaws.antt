@@ -10,7 +10,7 @@ use Rattle.league.specs.declared.facts.Kind.{Kind}
 use Rattle.league.specs.declared.facts.Link.{Link}
 use Rattle.league.specs.declared.roles.Role.{Role}
 use Rattle.league.specs.declared.roles.Role.the-variants.{Forward, Backward}
-use Rattle.rules.specs.Follows.Star.{here}
+use Rattle.graph.specs.Paths.Star.{here}
 use Rattle.store.specs.Holding.{Holding, Sound}
 use Rattle.model.specs.Plain.{plainShape, plainForm}
 use Rattle.model.specs.Recorded.{nameOf}

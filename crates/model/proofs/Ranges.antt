@@ -19,7 +19,8 @@ use Rattle.league.specs.declared.roles.Mark.{Mark}
 use Rattle.league.specs.declared.roles.Mark.the-variants.{Is, Has}
 use Rattle.league.specs.declared.roles.Role.{Role}
 use Rattle.league.specs.declared.roles.Role.the-variants.{Forward, Backward}
-use Rattle.rules.specs.Follows.{Star, Hides, Below, Implies, RoleEdge, MarkEdge, hidden}
+use Rattle.graph.specs.Paths.{Star}
+use Rattle.rules.specs.Follows.{Hides, Below, Implies, RoleEdge, MarkEdge, hidden}
 use Rattle.rules.specs.Marks.{KindIn, RoleIn, MarkIn}
 use Rattle.rules.specs.Pairs.{pairOf}
 use Rattle.rules.specs.RuleSet.{RuleSet, Proper}

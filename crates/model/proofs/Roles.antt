@@ -9,7 +9,8 @@ use Rattle.league.specs.declared.roles.Mark.{Mark}
 use Rattle.league.specs.declared.roles.Mark.the-variants.{Has}
 use Rattle.league.specs.declared.roles.Role.{Role}
 use Rattle.league.specs.declared.roles.Role.the-variants.{Forward, Backward}
-use Rattle.rules.specs.Follows.{Star, RoleEdge, Below, Implies, MarkEdge}
+use Rattle.graph.specs.Paths.{Star}
+use Rattle.rules.specs.Follows.{RoleEdge, Below, Implies, MarkEdge}
 use Rattle.rules.specs.RuleSet.{RuleSet}
 use Rattle.rules.proofs.Marked.{turn-turn}
 

@@ -8,7 +8,8 @@ use Rattle.league.specs.Roles.{inverse, code}
 use Rattle.league.specs.declared.facts.Fact.{Fact}
 use Rattle.league.specs.declared.facts.Name.{Name}
 use Rattle.league.specs.declared.roles.Role.{Role}
-use Rattle.rules.specs.Follows.{Star, Below}
+use Rattle.graph.specs.Paths.{Star}
+use Rattle.rules.specs.Follows.{Below}
 use Rattle.rules.specs.RuleSet.{RuleSet}
 use Rattle.rules.proofs.Marked.{turn-turn}
 use Rattle.model.specs.Canonical.{Generating, Loop, InLoop, Turns, Index, RoleGenerates, Present, Steps, By, Decided}

@@ -7,7 +7,7 @@ use lib.Dec.{T}
 use Rattle.league.specs.Roles.{inverse}
 use Rattle.league.specs.declared.facts.Kind.{Kind}
 use Rattle.league.specs.declared.roles.Role.{Role}
-use Rattle.rules.specs.Follows.{Star}
+use Rattle.graph.specs.Paths.{Star}
 
 -- a structure: elements are numbers below its size, some of them present; a question may name those
 -- below `nameable`; each element is of some kinds, and each role joins some elements to others
