@@ -17,28 +17,13 @@ use Rattle.rules.proofs.Marked.{T-true, true-T}
 use Rattle.model.specs.Canonical.{Present, Steps, By, HasMark, Joined, NamesJoined, RoleGenerates, Turns, Index, InLoop, Decided, Completes}
 use Rattle.model.specs.Elements.{Element, elementOf, roleOf}
 use Rattle.model.specs.Recorded.{FactsIn, Recorded, nameOf, factOf}
-use Rattle.model.specs.Tabled.{Tabled, Right, RoleRange, isName, roleAt, indexAt, witnessAt, presentAt, generates, turns, indexAfter, nameSteps, witnessSteps, stepAt, byAt, kindAt, namesAt, joinsAt, someBelow, tabledShape, tabledForm}
+use Rattle.model.specs.Tabled.{Tabled, Right, RoleRange, isName, roleAt, indexAt, witnessAt, presentAt, generates, turns, indexAfter, nameSteps, witnessSteps, stepAt, byAt, kindAt, namesAt, joinsAt, tabledShape, tabledForm}
 use Rattle.model.proofs.Numbers.{element-name, element-far, role-of-code}
 use Rattle.model.proofs.Ranges.{generating-in, in-inverse, recorded-small}
 use Rattle.model.proofs.Roles.{code-same}
+use Rattle.model.proofs.Searches.{some-found, some-at}
 use Rattle.model.proofs.Steps.{step-present}
 use Rattle.model.proofs.Tests.{and-both, both-and, or-either, or-left, or-right, is-false}
-
-pub some-found : (n : ℕ) (q : ℕ → Bool) → T (someBelow n q) → (c : ℕ) × (c < n) × T (q c)
-unfolding someBelow
-some-found zero q h = absurd h
-some-found (suc n) q h = elim (or-either (someBelow n q) (q n) h) [
-  | inl g ↦ let p = some-found n q g in (p .0, omega (arith, p .1), p .2)
-  | inr g ↦ (n, omega arith, g)
-]
-
-pub some-at : (n : ℕ) (q : ℕ → Bool) (c : ℕ) → c < n → T (q c) → T (someBelow n q)
-unfolding someBelow
-some-at zero q c l h = absurd (omega arith)
-some-at (suc n) q c l h = elim (ℕ-discrete c n) [
-  | yes e ↦ or-right (someBelow n q) (q n) (subst (λ k. T (q k)) e h)
-  | no u ↦ or-left (someBelow n q) (q n) (some-at n q c (omega arith) h)
-]
 
 not-from : (b : Bool) → (T b → ⊥) → T (not b)
 not-from true h = h tt

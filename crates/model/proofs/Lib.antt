@@ -4,5 +4,6 @@ pub mod Numbers
 pub mod PlainLaws
 pub mod Ranges
 pub mod Roles
+pub mod Searches
 pub mod Steps
 pub mod Tests

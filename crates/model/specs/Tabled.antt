@@ -3,7 +3,7 @@
 use mathlib.Core.Path.{_≡_}
 use mathlib.Core.Bool.{Bool, false, cond, not, _&&_, _||_}
 use mathlib.Core.Logic.{_↔_}
-use Prim.Native.Nat.{ℕ, zero, suc, _+_, _-_, _/_, _%_, _<_}
+use Prim.Native.Nat.{ℕ, _+_, _-_, _/_, _%_, _<_}
 use lib.Dec.{T, ltb, leb, eqb}
 use Rattle.league.specs.Roles.{inverse, code}
 use Rattle.league.specs.declared.facts.Fact.{Fact}
@@ -16,6 +16,7 @@ use Rattle.rules.specs.RuleSet.{RuleSet}
 use Rattle.model.specs.Canonical.{Loop, InLoop, NameGenerates, Generating}
 use Rattle.model.specs.Elements.{roleOf}
 use Rattle.model.specs.Recorded.{NameHas, nameOf, factOf}
+use Rattle.model.specs.Rows.{someBelow}
 use Rattle.model.specs.Structures.{Shape, Form}
 
 -- what the tables tell: how many names there are, which roles and marks are above one another, which marks
@@ -48,11 +49,6 @@ pub record Right (facts : Fact → Bool) (rules : RuleSet) (t : Tabled) : Type 0
   pub generatingIs : (R : Role) → T (t .generating R) ↔ Generating (t .names) facts rules R
   pub loopsAre : (R S : Role) → T (t .loops R S) ↔ Loop rules R S
   pub inLoopIs : (R : Role) → T (t .inLoop R) ↔ InLoop rules R
-
--- the test holds of some number below n; it stays shut, as it would else compute to as many tests
-unfoldable pub someBelow : ℕ → (ℕ → Bool) → Bool
-someBelow zero q = false
-someBelow (suc n) q = someBelow n q || q n
 
 module _ (t : Tabled) where
   -- the element is a name

@@ -3,4 +3,5 @@
 pub mod laws;
 pub mod model;
 pub mod plain;
+mod recorded;
 pub mod structure;

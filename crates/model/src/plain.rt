@@ -1,8 +1,8 @@
 //! The plain model: names and recorded facts, no rules and no steps.
 ghost use mathlib.Core.Path.{_≡_};
 ghost use Rattle.model.specs.Plain.{plainShape, plainForm};
-ghost use Rattle.model.specs.Recorded.{nameOf, factOf};
 use crate::model::Model;
+use crate::recorded::fact_of;
 use crate::structure::Structure;
 use league::facts::Fact;
 use league::facts::Kind;
@@ -22,16 +22,6 @@ impl<'a, S: Store> PlainModel<'a, S> {
         ensures { λ r. ⌜ now (r .store) ≡ now (store .entry) ⌝ }
     {
         PlainModel { store }
-    }
-}
-
-/// The fact by which the role itself joins one name to another.
-fn fact_of(role: Role, from: Name, to: Name) -> Fact
-    ensures { λ r. ⌜ r ≡ factOf role from to ⌝ }
-{
-    match role {
-        Role::Forward(link) => Fact::Joins(link, from, to),
-        Role::Backward(link) => Fact::Joins(link, to, from),
     }
 }
 
