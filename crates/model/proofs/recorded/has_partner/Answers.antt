@@ -13,7 +13,7 @@ pub returns-then-has : need.returns-then-has
 returns-then-has g c =
     let h = g .S·Store .means (c .args .store .now) in
     sym (some-true (h .names) (λ b. h .facts (factOf (c .args .role) (c .args .name) (nameOf b))) (c .loop-partner .partner)
-      (omega (arith, c .names-partner-end .ensures, c .loop-partner-test .taken)) (ap (h .facts) (sym (c .fact-of .ensures)) ∙ sym (c .if-has .ensures tt)))
+    (omega (arith, c .names-partner-end .ensures, c .loop-partner-test .taken)) (ap (h .facts) (sym (c .fact-of .ensures)) ∙ sym (c .if-has .ensures tt)))
 
 pub loop-partner-again : need.loop-partner-again
 loop-partner-again g c =
