@@ -4,6 +4,7 @@ use Prim.Native.Nat.{ℕ, _+_}
 use lib.Dec.{T}
 use Rattle.std.specs.shelf.Maps.{nth}
 use Rattle.std.specs.declared.option.Option.the-variants.{Some}
+use Rattle.graph.specs.Paths.{Star}
 use Rattle.league.specs.Roles.{inverse}
 use Rattle.league.specs.declared.facts.Kind.{Kind}
 use Rattle.league.specs.declared.facts.Link.{Link}
@@ -14,11 +15,6 @@ use Rattle.league.specs.declared.roles.Mark.the-variants.{Is, Has}
 use Rattle.league.specs.declared.rules.Rule.the-variants.{Inclusion, Required, RoleInclusion}
 use Rattle.rules.specs.Pairs.{pairOf}
 use Rattle.rules.specs.RuleSet.{RuleSet}
-
--- the smallest reflexive and transitive relation that holds the edges
-pub data Star {A : Type 0} (E : A → A → Type 0) : A → A → Type 0 where
-  here : {a : A} → Star E a a
-  then : {a b c : A} → Star E a b → E b c → Star E a c
 
 -- the hidden link of the pair with a number: above all links that a rule may name
 abbrev pub hidden : ℕ → Link

@@ -1,0 +1,3 @@
+mod Reaching
+pub mod Stars
+mod Tabled
