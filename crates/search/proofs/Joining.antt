@@ -87,12 +87,14 @@ module _ (s : Shape) (f : Form) (laws : Lawful s f) where
   pub view : (R : Role) (x y : Thing) → Joined (unravelled s f) R x y → View s f R x y
   view (Role.Forward l) x y h =
       elim (or-either (bare s f (Role.Forward l) x y) _ h) [
-        inl a ↦ inl a
-      | inr a ↦ inr (or-either (extends s f (Role.Forward l) x y) _ a) ]
+        | inl a ↦ inl a
+        | inr a ↦ inr (or-either (extends s f (Role.Forward l) x y) _ a)
+      ]
   view (Role.Backward l) x y h =
       elim (or-either (bare s f (Role.Forward l) y x) _ h) [
-        inl a ↦ inl (bare-turned (Role.Forward l) y x a)
-      | inr a ↦ elim (or-either (extends s f (Role.Forward l) y x) _ a) [ inl b ↦ inr (inr b) | inr b ↦ inr (inl b) ] ]
+        | inl a ↦ inl (bare-turned (Role.Forward l) y x a)
+        | inr a ↦ elim (or-either (extends s f (Role.Forward l) y x) _ a) [ inl b ↦ inr (inr b) | inr b ↦ inr (inl b) ]
+      ]
 
   pub joined : (R : Role) (x y : Thing) → View s f R x y → Joined (unravelled s f) R x y
   joined (Role.Forward l) x y (inl a) = or-left (bare s f (Role.Forward l) x y) _ a
