@@ -1,3 +1,4 @@
+pub mod Fitting
 pub mod Hidden
 pub mod Partners
 pub mod PathMarks
