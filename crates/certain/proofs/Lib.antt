@@ -1,4 +1,5 @@
 pub mod Fitting
 pub mod Hidden
+pub mod Images
 pub mod Partners
 pub mod PathMarks
