@@ -3,3 +3,4 @@ pub mod Hidden
 pub mod Images
 pub mod Partners
 pub mod PathMarks
+pub mod Whole
