@@ -1,12 +1,12 @@
 -- Without a clash the unravelled model fits.
-use mathlib.Core.Path.{_≡_, sym, subst}
+use mathlib.Core.Path.{sym, subst}
 use mathlib.Core.Bool.{Bool}
-use mathlib.Core.List.{List, [], _∷_}
+use mathlib.Core.List.{[], _∷_}
 use mathlib.Core.Logic.{inl, inr}
 use Prim.Native.Nat.{ℕ}
 use lib.Dec.{T, lt→ltb}
 use Rattle.league.specs.Roles.{inverse}
-use Rattle.league.specs.Worlds.{Thing, Joined, Marked, FitsFact, FitsRule, Fits}
+use Rattle.league.specs.Worlds.{Thing, Joined, Marked, FitsFact, FitsRule}
 use Rattle.league.specs.declared.facts.Fact.{Fact}
 use Rattle.league.specs.declared.facts.Kind.{Kind}
 use Rattle.league.specs.declared.roles.Mark.{Mark}

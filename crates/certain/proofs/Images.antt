@@ -1,11 +1,11 @@
 -- The unravelled model maps into every world that fits, and takes matches to matches.
 use mathlib.Core.Path.{_≡_, refl, sym, ap, subst, subst₂, _∙_}
 use mathlib.Core.Bool.{Bool, true, false}
-use mathlib.Core.List.{List, [], _∷_}
+use mathlib.Core.List.{[], _∷_}
 use mathlib.Core.Logic.{inl, inr}
 use Prim.Native.Nat.{ℕ, _<_}
 use native.Mathlib.Omega.{arith}
-use lib.Dec.{T, ltb, lt→ltb, ltb→lt}
+use lib.Dec.{T, lt→ltb, ltb→lt}
 use Rattle.league.specs.Proper.{AtomRanged}
 use Rattle.league.specs.Questions.{value, True}
 use Rattle.league.specs.Roles.{inverse, linkOf}

@@ -1,11 +1,12 @@
--- The certain rows are the rows of kept matches.
-use mathlib.Core.Path.{_≡_, ap, subst, _∙_}
+-- The certain rows are the rows of kept matches, and no world fits exactly when there is a clash.
+use mathlib.Core.Path.{ap, subst, _∙_}
 use mathlib.Core.Bool.{Bool}
 use mathlib.Core.List.{List}
 use mathlib.Core.Logic.{_↔_}
 use Prim.Native.Nat.{ℕ}
 use Rattle.league.specs.Proper.{Proper}
 use Rattle.league.specs.Questions.{Holds}
+use Rattle.league.specs.Worlds.{World, Fits}
 use Rattle.league.specs.declared.facts.Fact.{Fact}
 use Rattle.league.specs.declared.facts.Name.{Name}
 use Rattle.league.specs.declared.questions.Atom.{Atom}
@@ -15,8 +16,9 @@ use Rattle.model.specs.Structures.{Shape, Form}
 use Rattle.model.specs.Unravelled.{unravelled}
 use Rattle.search.specs.Matches.{KeptRow, RowBelow}
 use Rattle.search.proofs.Kept.{kept-rows-hold}
-use Rattle.certain.specs.Universal.{Certain, Models, CertainIsKept}
+use Rattle.certain.specs.Universal.{Certain, Models, CertainIsKept, NoneFitsIsClash}
 use Rattle.certain.proofs.Fitting.{unravelled-fits}
+use Rattle.certain.proofs.Hidden.{clash-fits-none}
 use Rattle.certain.proofs.Images.{to, to-name, true-to}
 use Rattle.certain.proofs.PathMarks.{laws}
 
@@ -45,5 +47,17 @@ module _ (facts : Fact → Bool) (rules : RuleSet) (s : Shape) (f : Form) where
       let kept = kept-rows-hold s f (laws facts rules s f m) k atoms proper row below in
       (λ c. kept .0 (found .0 c), λ h. found .1 (kept .1 h))
 
+  abbrev NoneOver : ℕ → Type 0
+  NoneOver P = Models P facts rules s f → Dec (Clash P facts rules) → ((w : World P) → Fits w facts (rules .rules) → ⊥) ↔ Clash P facts rules
+
+  none-here : NoneOver (f .names)
+  none-here m told = (
+    λ none. elim told [ yes c ↦ c | no calm ↦ absurd (none (unravelled s f) (unravelled-fits facts rules s f m calm)) ],
+    λ c. clash-fits-none (f .names) facts rules (m .factsIn) (m .proper) c,
+  )
+
 pub certain-is-kept : CertainIsKept
 certain-is-kept P facts rules s f m = subst (KeptOver facts rules s f) (m .completes .namesAre) (kept-here facts rules s f) m
+
+pub none-fits-is-clash : NoneFitsIsClash
+none-fits-is-clash P facts rules s f m = subst (NoneOver facts rules s f) (m .completes .namesAre) (none-here facts rules s f) m

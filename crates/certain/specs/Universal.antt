@@ -1,7 +1,7 @@
 -- Why the canonical model answers for every world: its unravelling fits, and maps into every world that fits.
 use mathlib.Core.Path.{_≡_}
 use mathlib.Core.Bool.{Bool}
-use mathlib.Core.List.{List, [], _∷_}
+use mathlib.Core.List.{List}
 use mathlib.Core.Logic.{_↔_}
 use Prim.Native.Nat.{ℕ, _<_}
 use lib.Dec.{T}
@@ -66,6 +66,13 @@ abbrev pub ClashFitsNone : Type 0
 ClashFitsNone =
     (P : ℕ) (facts : Fact → Bool) (rules : RuleSet) → FactsIn P facts → Proper rules
     → Clash P facts rules → (w : World P) → Fits w facts (rules .rules) → ⊥
+
+-- where clashes can be told, no world fits exactly when there is one
+abbrev pub NoneFitsIsClash : Type 0
+NoneFitsIsClash =
+    (P : ℕ) (facts : Fact → Bool) (rules : RuleSet) (s : Shape) (f : Form) → Models P facts rules s f
+    → Dec (Clash P facts rules)
+    → ((w : World P) → Fits w facts (rules .rules) → ⊥) ↔ Clash P facts rules
 
 -- without a clash a row of names is certain exactly when it has a kept match in the canonical model
 abbrev pub CertainIsKept : Type 0
