@@ -1,3 +1,4 @@
 //! The register: a store with rules, at first none.
 pub mod calls;
 pub mod register;
+pub mod universal;

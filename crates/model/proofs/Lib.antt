@@ -1,0 +1,9 @@
+pub mod CanonicalLaws
+pub mod Completion
+pub mod Numbers
+pub mod PlainLaws
+pub mod Ranges
+pub mod Roles
+pub mod Searches
+pub mod Steps
+pub mod Tests

@@ -1,0 +1,9 @@
+pub mod Canonical
+pub mod Elements
+pub mod Given
+pub mod Plain
+pub mod Recorded
+pub mod Rows
+pub mod Structures
+pub mod Tabled
+pub mod Unravelled

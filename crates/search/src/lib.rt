@@ -1,0 +1,3 @@
+//! Matches of a question in a model: all of them, in order; and which of them are the ends of a match in the
+//! unravelled model.
+pub mod theorems;
