@@ -1,3 +1,10 @@
 pub mod Agree
+pub mod Bridge
+pub mod Fits
 pub mod Joining
 pub mod Kept
+pub mod Left
+pub mod NamesInOrder
+pub mod Odometer
+pub mod Standing
+pub mod Steps
