@@ -1,4 +1,5 @@
 pub mod Agree
+pub mod Answered
 pub mod Bridge
 pub mod Fits
 pub mod Joining
