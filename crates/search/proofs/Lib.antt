@@ -5,7 +5,9 @@ pub mod Fits
 pub mod Joining
 pub mod Kept
 pub mod Left
+pub mod Listing
 pub mod NamesInOrder
 pub mod Odometer
+pub mod Rows
 pub mod Standing
 pub mod Steps
