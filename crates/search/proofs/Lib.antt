@@ -1,3 +1,13 @@
 pub mod Agree
+pub mod Answered
+pub mod Bridge
+pub mod Fits
 pub mod Joining
 pub mod Kept
+pub mod Left
+pub mod Listing
+pub mod NamesInOrder
+pub mod Odometer
+pub mod Rows
+pub mod Standing
+pub mod Steps

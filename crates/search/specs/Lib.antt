@@ -1,2 +1,5 @@
+pub mod Cells
 pub mod Filtering
+pub mod Finding
 pub mod Matches
+pub mod Searching
