@@ -1,9 +1,9 @@
 -- What the reading of a line tells, by the letter that it begins with.
 use mathlib.Core.Path.{_≡_, refl, sym, ap, subst, _∙_}
-use mathlib.Core.Bool.{Bool, true, false, cond, true≢false}
+use mathlib.Core.Bool.{true, false, cond, true≢false}
 use mathlib.Core.List.{List, [], _∷_}
 use mathlib.Core.Logic.{_⊎_, ⊎-elim}
-use Prim.Native.Nat.{ℕ, zero, suc, _+_, _-_, _<_, _≤_}
+use Prim.Native.Nat.{ℕ, suc, _-_, _≤_}
 use native.Mathlib.Omega.{arith}
 use lib.Dec.{eqb}
 use lib.ListN.{take, length}
@@ -17,7 +17,6 @@ use Rattle.certain.specs.declared.calls.Call.{Call}
 use Rattle.certain.specs.declared.calls.Call.the-variants.{EnterFact, EnterRule}
 use Rattle.text.specs.declared.faults.Unreadable.{Unreadable}
 use Rattle.text.specs.Lines.{Bytes, fields}
-use Rattle.text.specs.Forms.{numeral, kindForm, roleForm, markForm}
 use Rattle.text.specs.Grammar.{andThen, two, three, byLetter, reading}
 use Rattle.text.specs.Written.{Short, written, spaced, Begins, Means}
 use Rattle.text.proofs.Spaces.{spaced-fields, fields-written}

@@ -1,9 +1,9 @@
 -- Fields with single spaces between them, and the fields of such a line.
 use mathlib.Core.Path.{_≡_, refl, sym, ap, _∙_}
-use mathlib.Core.Bool.{Bool, true, false, cond, _&&_}
+use mathlib.Core.Bool.{true, false}
 use mathlib.Core.List.{List, [], _∷_, _++_, append-nil}
 use mathlib.Core.Logic.{_⊎_, ⊎-elim}
-use Prim.Native.Nat.{ℕ, _^_, _<_}
+use Prim.Native.Nat.{ℕ}
 use native.Mathlib.Omega.{arith}
 use lib.Dec.{eqb}
 use Rattle.std.specs.Reads.{Digits}
@@ -19,7 +19,7 @@ use Rattle.league.specs.declared.roles.Role.the-variants.{Forward, Backward}
 use Rattle.league.specs.declared.rules.Rule.the-variants.{Inclusion, Exclusion, Required, RoleInclusion}
 use Rattle.certain.specs.declared.calls.Call.{Call}
 use Rattle.certain.specs.declared.calls.Call.the-variants.{EnterFact, EnterRule}
-use Rattle.text.specs.Lines.{Bytes, onto, cut, fields}
+use Rattle.text.specs.Lines.{Bytes, fields}
 use Rattle.text.specs.Written.{Small, ShortRole, ShortMark, Short, roleText, markText, written, spaced}
 use Rattle.text.proofs.Cuts.{fields-some}
 

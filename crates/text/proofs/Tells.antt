@@ -1,7 +1,7 @@
 -- What the reading of some fields tells of them, and how that is put together field by field.
 use mathlib.Core.Path.{_≡_, refl, sym, ap, subst, _∙_}
 use mathlib.Core.List.{List, [], _∷_}
-use Prim.Native.Nat.{ℕ, zero, suc, _+_, _-_, _<_, _≤_}
+use Prim.Native.Nat.{ℕ, suc, _+_, _-_}
 use native.Mathlib.Omega.{arith}
 use lib.ListN.{take, length}
 use Rattle.std.specs.declared.option.Option.{Option}
