@@ -3,9 +3,9 @@ use mathlib.Core.Path.{_≡_, refl, sym, ap, subst, _∙_}
 use mathlib.Core.Bool.{Bool, true, false, cond, _&&_}
 use mathlib.Core.List.{List}
 use mathlib.Core.Logic.{_⊎_, inl, inr, ⊎-elim}
-use Prim.Native.Nat.{ℕ, _+_, _-_, _<_, _≤_}
+use Prim.Native.Nat.{ℕ, _+_, _-_, _<_}
 use native.Mathlib.Omega.{arith}
-use lib.Dec.{T, ltb, eqb}
+use lib.Dec.{T, eqb}
 use lib.ListN.{length, getD}
 use Rattle.std.proofs.shelf.Tests.{cases-eq, cases-lt, ltb-true, lt-ltb, eq-eqb, ne-eqb, and-parts, and-from, both-ways, cond-true, cond-false}
 use Rattle.graph.specs.Paths.{Star, here, then, Step, Tells}
@@ -23,7 +23,7 @@ use Rattle.rules.specs.Marks.{sameRole, sameMark, markCode}
 use Rattle.rules.specs.RuleSet.{RuleSet, Proper}
 use Rattle.rules.specs.Steps.{roleGives, roleStep, entryOf, markGives, markStep}
 use Rattle.rules.specs.declared.consequences.Consequences.{Consequences}
-use Rattle.rules.proofs.Coded.{code-role, role-of-code, code-below, small-mark, large-mark}
+use Rattle.rules.proofs.Coded.{role-of-code, code-below, small-mark, large-mark}
 use Rattle.rules.proofs.Marked.{T-true, true-T, role-self, role-eq, mark-self, mark-eq}
 use Rattle.rules.proofs.Stepped.{RoleFits, MarkFits, gives-edge, edge-gives, edge-fits, below-fits, gives-mark-edge, mark-edge-gives}
 
