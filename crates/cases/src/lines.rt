@@ -10,7 +10,7 @@ use text::scan::find_byte;
 const PAGE: usize = 65_536;
 
 /// Runs a text over lent records and a lent page, and prints the result and the page up to its first byte 0.
-fn show_on(rt: &LibcRuntime, title: &str, text: &[u8], records: &mut [Fact], page: &mut [u8]) -> Result<(), AnyError> {
+pub(crate) fn show_on(rt: &LibcRuntime, title: &str, text: &[u8], records: &mut [Fact], page: &mut [u8]) -> Result<(), AnyError> {
     match run(text, records, page) {
         Ok(len) => println!(rt, "# {title}: {len} bytes")?,
         Err(fault) => {
