@@ -1,2 +1,1 @@
 pub mod Reference
-pub mod Universal

@@ -1,4 +1,3 @@
 //! The register: a store with rules, at first none.
 pub mod calls;
 pub mod register;
-pub mod universal;

@@ -25,9 +25,9 @@ use Rattle.model.specs.Unravelled.{endOf, bare, extends, unravelled}
 use Rattle.model.proofs.Numbers.{element-name}
 use Rattle.model.proofs.Roles.{below-inverse, star-trans}
 use Rattle.search.proofs.Joining.{View, view, joined, bare-parts, extends-parts, extends-made, step-of}
-use Rattle.certain.specs.Universal.{Models, UnravelledFits}
-use Rattle.certain.proofs.Partners.{kind-within}
-use Rattle.certain.proofs.PathMarks.{laws, path-present, recorded, stepped, facts-joined, marks-have, have-marks}
+use Rattle.universal.specs.Universal.{Models, UnravelledFits}
+use Rattle.universal.proofs.Partners.{kind-within}
+use Rattle.universal.proofs.PathMarks.{laws, path-present, recorded, stepped, facts-joined, marks-have, have-marks}
 
 module _ (facts : Fact → Bool) (rules : RuleSet) (s : Shape) (f : Form) (m : Models (f .names) facts rules s f) where
   has-more : (e : Element) (B C : Mark) → HasMark (f .names) facts rules e B → Implies rules B C → HasMark (f .names) facts rules e C

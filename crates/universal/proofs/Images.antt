@@ -27,9 +27,9 @@ use Rattle.model.specs.Unravelled.{isPath, endOf, unravelled}
 use Rattle.model.proofs.Numbers.{element-name}
 use Rattle.model.proofs.Tests.{and-both}
 use Rattle.search.proofs.Joining.{View, view, bare-parts, extends-parts}
-use Rattle.certain.specs.Universal.{Models, UnravelledMaps}
-use Rattle.certain.proofs.Hidden.{flip, unflip, extended, seen, below-joins, facts-join, name-marks, grow}
-use Rattle.certain.proofs.PathMarks.{laws, step-at, step-has, recorded, stepped, marks-have}
+use Rattle.universal.specs.Universal.{Models, UnravelledMaps}
+use Rattle.universal.proofs.Hidden.{flip, unflip, extended, seen, below-joins, facts-join, name-marks, grow}
+use Rattle.universal.proofs.PathMarks.{laws, step-at, step-has, recorded, stepped, marks-have}
 
 -- a thing where the test passes
 pick : (b : Bool) → (T b → Thing) → Thing

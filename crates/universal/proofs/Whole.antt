@@ -16,11 +16,11 @@ use Rattle.model.specs.Structures.{Shape, Form}
 use Rattle.model.specs.Unravelled.{unravelled}
 use Rattle.search.specs.Matches.{KeptRow, RowBelow}
 use Rattle.search.proofs.Kept.{kept-rows-hold}
-use Rattle.certain.specs.Universal.{Certain, Models, CertainIsKept, NoneFitsIsClash}
-use Rattle.certain.proofs.Fitting.{unravelled-fits}
-use Rattle.certain.proofs.Hidden.{clash-fits-none}
-use Rattle.certain.proofs.Images.{to, to-name, true-to}
-use Rattle.certain.proofs.PathMarks.{laws}
+use Rattle.universal.specs.Universal.{Certain, Models, CertainIsKept, NoneFitsIsClash}
+use Rattle.universal.proofs.Fitting.{unravelled-fits}
+use Rattle.universal.proofs.Hidden.{clash-fits-none}
+use Rattle.universal.proofs.Images.{to, to-name, true-to}
+use Rattle.universal.proofs.PathMarks.{laws}
 
 module _ (facts : Fact → Bool) (rules : RuleSet) (s : Shape) (f : Form) where
   -- what is certain holds in the unravelled model, and what holds there goes into every world that fits

@@ -25,8 +25,8 @@ use Rattle.model.specs.Canonical.{Generating, Present, HasMark, Clash}
 use Rattle.model.specs.Elements.{Element}
 use Rattle.model.specs.Recorded.{FactsIn, Recorded, Given, NameHas}
 use Rattle.model.proofs.Tests.{and-both, both-and, is-false}
-use Rattle.certain.specs.Universal.{ClashFitsNone}
-use Rattle.certain.proofs.Partners.{link-within}
+use Rattle.universal.specs.Universal.{ClashFitsNone}
+use Rattle.universal.proofs.Partners.{link-within}
 
 module _ {P : ℕ} (w : World P) where
   pub flip : (R : Role) (x y : Thing) → Joined w R x y → Joined w (inverse R) y x

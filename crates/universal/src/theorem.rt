@@ -1,5 +1,5 @@
 //! Why the canonical model answers for every world, as the contract of a call that does nothing.
-ghost use Rattle.certain.specs.Universal.{MarksFollow, UnravelledMaps, UnravelledFits, ClashFitsNone, NoneFitsIsClash, CertainIsKept};
+ghost use Rattle.universal.specs.Universal.{MarksFollow, UnravelledMaps, UnravelledFits, ClashFitsNone, NoneFitsIsClash, CertainIsKept};
 
 /// Does nothing. Its contract is the theorem: in the unravelled model exactly the marks that follow are there; it
 /// maps into every world that fits; without a clash it fits itself, and with one no world does. So, where clashes

@@ -28,8 +28,8 @@ use Rattle.model.proofs.Steps.{some-index}
 use Rattle.model.proofs.Tests.{and-both, both-and}
 use Rattle.search.proofs.Joining.{View, view, joined, Bare, bare-parts, Extends, extends-parts, extends-made}
 use Rattle.search.proofs.Kept.{end-present}
-use Rattle.certain.specs.Universal.{Models, MarksFollow}
-use Rattle.certain.proofs.Partners.{partner-within, partner?}
+use Rattle.universal.specs.Universal.{Models, MarksFollow}
+use Rattle.universal.proofs.Partners.{partner-within, partner?}
 
 module _ (facts : Fact → Bool) (rules : RuleSet) (s : Shape) (f : Form) (m : Models (f .names) facts rules s f) where
   abbrev At : ℕ → Element
