@@ -12,7 +12,10 @@ use std::error::AnyError;
 /// The place that a refusal tells, or 0.
 fn place(fault: BookFault) -> u16 {
     match fault {
-        BookFault::Kind(place) | BookFault::Link(place) | BookFault::Name(place) | BookFault::Variable(place) => place.0,
+        BookFault::Kind(place)
+        | BookFault::Link(place)
+        | BookFault::Name(place)
+        | BookFault::Variable(place) => place.0,
         _ => 0,
     }
 }
@@ -56,9 +59,56 @@ pub(crate) fn all(rt: &LibcRuntime) -> Result<(), AnyError> {
     show(rt, "k = 5", 5, &[is(64, 0)])?;
     show(rt, "k = 65535", 65_535, &[is(1, 0)])?;
     show(rt, "v8", 0, &[is(63, 7), is(63, 8)])?;
-    show(rt, "name 1024", 0, &[of(1, 1023), joins(31, Term::Variable(0), Term::Name(Name(1024)))])?;
-    show(rt, "link 32 before name 1024", 0, &[joins(32, Term::Name(Name(1024)), Term::Variable(9))])?;
-    show(rt, "nine terms", 1, &[is(1, 1), is(1, 2), is(1, 3), is(1, 4), is(1, 5), is(1, 6), is(1, 7), of(1, 0), of(1, 1)])?;
-    show(rt, "eight terms", 1, &[is(1, 1), is(1, 2), is(1, 3), is(1, 4), is(1, 5), is(1, 6), is(1, 0), of(1, 0)])?;
-    show(rt, "an answer variable in no atom", 2, &[is(1, 0), is(1, 2)])
+    show(
+        rt,
+        "name 1024",
+        0,
+        &[
+            of(1, 1023),
+            joins(31, Term::Variable(0), Term::Name(Name(1024))),
+        ],
+    )?;
+    show(
+        rt,
+        "link 32 before name 1024",
+        0,
+        &[joins(32, Term::Name(Name(1024)), Term::Variable(9))],
+    )?;
+    show(
+        rt,
+        "nine terms",
+        1,
+        &[
+            is(1, 1),
+            is(1, 2),
+            is(1, 3),
+            is(1, 4),
+            is(1, 5),
+            is(1, 6),
+            is(1, 7),
+            of(1, 0),
+            of(1, 1),
+        ],
+    )?;
+    show(
+        rt,
+        "eight terms",
+        1,
+        &[
+            is(1, 1),
+            is(1, 2),
+            is(1, 3),
+            is(1, 4),
+            is(1, 5),
+            is(1, 6),
+            is(1, 0),
+            of(1, 0),
+        ],
+    )?;
+    show(
+        rt,
+        "an answer variable in no atom",
+        2,
+        &[is(1, 0), is(1, 2)],
+    )
 }

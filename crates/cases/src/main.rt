@@ -3,6 +3,7 @@ mod filling;
 mod lines;
 mod stores;
 mod texts;
+
 use std::error::AnyError;
 
 fn main(rt: LibcRuntime) -> Result<(), AnyError> {

@@ -57,8 +57,16 @@ fn records(rt: &LibcRuntime) -> Result<(), AnyError> {
     let mut store = RecordStore::open(&mut one, 2);
     enter(rt, &mut store)?;
     let mut many = [Fact::Is(Kind(0), Name(0)); 65_537];
-    tell(rt, "65537 records, 1024 names", &RecordStore::open(&mut many, 1024))?;
-    tell(rt, "65537 records, 1025 names", &RecordStore::open(&mut many, 1025))
+    tell(
+        rt,
+        "65537 records, 1024 names",
+        &RecordStore::open(&mut many, 1024),
+    )?;
+    tell(
+        rt,
+        "65537 records, 1025 names",
+        &RecordStore::open(&mut many, 1025),
+    )
 }
 
 fn bits(rt: &LibcRuntime) -> Result<(), AnyError> {
@@ -70,7 +78,11 @@ fn bits(rt: &LibcRuntime) -> Result<(), AnyError> {
     enter(rt, &mut store)?;
     tell(rt, "the same", &store)?;
     tell(rt, "33 bytes, 0 names", &BitStore::open(&mut bytes, 0))?;
-    tell(rt, "33 bytes, 1025 names", &BitStore::open(&mut bytes, 1025))?;
+    tell(
+        rt,
+        "33 bytes, 1025 names",
+        &BitStore::open(&mut bytes, 1025),
+    )?;
     println!(rt, "{:?}", bytes)?;
     Ok(())
 }
