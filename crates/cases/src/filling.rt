@@ -50,14 +50,19 @@ fn joins(link: u16, from: Term, to: Term) -> Atom {
     Atom::Joins(Role::Backward(Link(link)), from, to)
 }
 
-pub(crate) fn all(rt: &LibcRuntime) -> Result<(), AnyError> {
+/// How many atoms and answer variables there may be.
+fn counts(rt: &LibcRuntime) -> Result<(), AnyError> {
     show(rt, "sixteen atoms", 1, &[is(1, 0); 16])?;
     show(rt, "seventeen atoms", 1, &[is(1, 0); 17])?;
     show(rt, "seventeen atoms, one out of range", 1, &[is(64, 0); 17])?;
     show(rt, "no atom", 0, &[])?;
     show(rt, "k = 4", 4, &[is(1, 0), is(1, 1), is(1, 2), is(63, 3)])?;
     show(rt, "k = 5", 5, &[is(64, 0)])?;
-    show(rt, "k = 65535", 65_535, &[is(1, 0)])?;
+    show(rt, "k = 65535", 65_535, &[is(1, 0)])
+}
+
+/// Which numbers and terms an atom may have.
+fn numbers(rt: &LibcRuntime) -> Result<(), AnyError> {
     show(rt, "v8", 0, &[is(63, 7), is(63, 8)])?;
     show(
         rt,
@@ -111,4 +116,9 @@ pub(crate) fn all(rt: &LibcRuntime) -> Result<(), AnyError> {
         2,
         &[is(1, 0), is(1, 2)],
     )
+}
+
+pub(crate) fn all(rt: &LibcRuntime) -> Result<(), AnyError> {
+    counts(rt)?;
+    numbers(rt)
 }
