@@ -1,3 +1,3 @@
 pub mod Reaching
+pub mod Shifted
 pub mod Stars
-pub mod Tabled

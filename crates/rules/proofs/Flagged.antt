@@ -2,12 +2,12 @@
 use mathlib.Core.Path.{_≡_, sym, ap, _∙_}
 use mathlib.Core.List.{List, []}
 use mathlib.Core.Logic.{⊎-elim}
-use mathlib.Core.Bool.{Bool, true, false, _&&_, _||_}
+use mathlib.Core.Bool.{Bool, true, false, cond, _&&_, _||_}
 use Prim.Native.Nat.{ℕ, _<_, _≤_}
 use lib.Dec.{eqb}
 use lib.ListN.{length, getD, set, replicate, length-replicate, length-set}
 use Rattle.std.proofs.shelf.Lists.{getD-replicate, getD-set-same, getD-set-other, getD-past}
-use Rattle.std.proofs.shelf.Tests.{cases-eq, cases-lt, eq-eqb, ne-eqb}
+use Rattle.std.proofs.shelf.Tests.{cases-eq, cases-lt, eq-eqb, ne-eqb, cond-true, cond-false}
 use Rattle.rules.specs.Flags.{flag}
 
 -- a list of equal values, with that value past its end, has it everywhere
@@ -70,3 +70,33 @@ wide-set cells row column i l =
     ∙ (length-set (getD cells row []) column true ∙ ap (λ (k : ℕ). length (getD cells k [])) (sym e))))
     (λ ne. ap length (getD-set-other cells row i (set (getD cells row []) column true) [] ne))
     (cases-eq i row)
+
+-- outside a table no flag is set
+pub no-row : (cells : List (List Bool)) (i j : ℕ) → length cells ≤ i → false ≡ flag cells i j
+no-row cells i j l = sym (ap (λ (row : List Bool). getD row j false) (getD-past cells i [] l))
+
+pub no-column : (cells : List (List Bool)) (i j : ℕ) → length (getD cells i []) ≤ j → false ≡ flag cells i j
+no-column cells i j l = sym (getD-past (getD cells i []) j false l)
+
+-- a table with the flags of one row made others
+module _ (cells : List (List Bool)) (i : ℕ) (row : List Bool) (l : i < length cells) where
+  put-own : (a : ℕ) → a ≡ i → getD (set cells i row) a [] ≡ row
+  put-own a e = ap (λ (k : ℕ). getD (set cells i row) k []) e ∙ getD-set-same cells i row [] l
+
+  pub wide-put : (n a : ℕ) → length row ≡ n → length (getD cells a []) ≡ n → length (getD (set cells i row) a []) ≡ n
+  wide-put n a long was =
+      ⊎-elim
+      (λ e. ap length (put-own a e) ∙ long)
+      (λ ne. ap length (getD-set-other cells i a row [] ne) ∙ was)
+      (cases-eq a i)
+
+  pub flag-put : (a b : ℕ) → flag (set cells i row) a b ≡ cond (eqb a i) (getD row b false) (flag cells a b)
+  flag-put a b =
+      ⊎-elim
+      (λ e.
+      ap (λ (r : List Bool). getD r b false) (put-own a e)
+      ∙ sym (cond-true (eqb a i) (getD row b false) (flag cells a b) (eq-eqb a i e)))
+      (λ ne.
+      ap (λ (r : List Bool). getD r b false) (getD-set-other cells i a row [] ne)
+      ∙ sym (cond-false (eqb a i) (getD row b false) (flag cells a b) (ne-eqb a i ne)))
+      (cases-eq a i)

@@ -9,21 +9,21 @@ use lib.Dec.{T, eqb}
 use lib.ListN.{length, getD}
 use Rattle.std.proofs.shelf.Tests.{cases-eq, cases-lt, ltb-true, lt-ltb, eq-eqb, ne-eqb, and-parts, and-from, both-ways, cond-true, cond-false}
 use Rattle.graph.specs.Paths.{Star, here, then, Step, Tells}
-use Rattle.graph.specs.Tables.{leads}
 use Rattle.graph.proofs.Stars.{star-map, star-same, star-ends}
-use Rattle.graph.proofs.Tabled.{no-row}
 use Rattle.league.specs.Roles.{code, linkOf}
 use Rattle.league.specs.declared.roles.Role.{Role}
 use Rattle.league.specs.declared.roles.Mark.{Mark}
 use Rattle.league.specs.declared.roles.Mark.the-variants.{Is, Has}
 use Rattle.rules.specs.Codes.{roleOf, markOf}
 use Rattle.rules.specs.Consequences.{roleListed, markListed, toldBelow, toldImplies, Decides}
+use Rattle.rules.specs.Flags.{flag}
 use Rattle.rules.specs.Follows.{RoleEdge, Below, MarkEdge, Implies}
 use Rattle.rules.specs.Marks.{sameRole, sameMark, markCode}
 use Rattle.rules.specs.RuleSet.{RuleSet, Proper}
 use Rattle.rules.specs.Steps.{roleGives, roleStep, entryOf, markGives, markStep}
 use Rattle.rules.specs.declared.consequences.Consequences.{Consequences}
 use Rattle.rules.proofs.Coded.{role-of-code, code-below, small-mark, large-mark}
+use Rattle.rules.proofs.Flagged.{no-row}
 use Rattle.rules.proofs.Marked.{T-true, true-T, role-self, role-eq, mark-self, mark-eq}
 use Rattle.rules.proofs.Stepped.{RoleFits, MarkFits, gives-edge, edge-gives, edge-fits, below-fits, gives-mark-edge, mark-edge-gives}
 
@@ -50,24 +50,24 @@ told P x y false entry same own table eq qe out = record {
 
 -- a table that tells a relation of the first nodes tells it of one more, once the row of that one is put
 pub row-more : (P : ℕ → ℕ → Type 0) (rows next : List (List Bool)) (i : ℕ) (row : List Bool)
-    → ((a b : ℕ) → leads next a b ≡ cond (eqb a i) (getD row b false) (leads rows a b))
-    → ((a b : ℕ) → a < i → Tells (leads rows a b) (P a b)) → ((b : ℕ) → Tells (getD row b false) (P i b))
-    → (a b : ℕ) → a < i + 1 → Tells (leads next a b) (P a b)
+    → ((a b : ℕ) → flag next a b ≡ cond (eqb a i) (getD row b false) (flag rows a b))
+    → ((a b : ℕ) → a < i → Tells (flag rows a b) (P a b)) → ((b : ℕ) → Tells (getD row b false) (P i b))
+    → (a b : ℕ) → a < i + 1 → Tells (flag next a b) (P a b)
 row-more P rows next i row put was own a b l =
     ⊎-elim
     (λ (e : a ≡ i).
     let t : Tells (getD row b false) (P a b) = subst (λ (n : ℕ). Tells (getD row b false) (P n b)) (sym e) (own b) in
-    subst (λ (x : Bool). Tells x (P a b)) (sym (put a b ∙ cond-true (eqb a i) (getD row b false) (leads rows a b) (eq-eqb a i e))) t)
+    subst (λ (x : Bool). Tells x (P a b)) (sym (put a b ∙ cond-true (eqb a i) (getD row b false) (flag rows a b) (eq-eqb a i e))) t)
     (λ (ne : a ≡ i → ⊥).
     let h : a < i = omega arith in
     subst (λ (x : Bool). Tells x (P a b))
-    (sym (put a b ∙ cond-false (eqb a i) (getD row b false) (leads rows a b) (ne-eqb a i ne)))
+    (sym (put a b ∙ cond-false (eqb a i) (getD row b false) (flag rows a b) (ne-eqb a i ne)))
     (was a b h))
     (cases-eq a i)
 
 module _ (s : RuleSet) (proper : Proper s) where
   -- the table of roles
-  module _ (rows : List (List Bool)) (table : (a b : ℕ) → a < 128 → Tells (leads rows a b) (Star (Step (roleStep s) 128) a b)) where
+  module _ (rows : List (List Bool)) (table : (a b : ℕ) → a < 128 → Tells (flag rows a b) (Star (Step (roleStep s) 128) a b)) where
     from-codes : (R S : Role) → Star (Step (roleStep s) 128) (code R) (code S) → Below s R S
     from-codes R S p =
         let q : Below s (roleOf (code R)) (roleOf (code S)) =
@@ -82,7 +82,7 @@ module _ (s : RuleSet) (proper : Proper s) where
         let f = edge-fits s proper e in
         (subst (λ (Q : Role). T (roleGives s (roleOf (code R)) Q)) (sym (role-of-code S)) g, code-below S 64 (f .1))
 
-    pub role-table : (R S : Role) → RoleFits R → Tells (leads rows (code R) (code S)) (Below s R S)
+    pub role-table : (R S : Role) → RoleFits R → Tells (flag rows (code R) (code S)) (Below s R S)
     role-table R S f =
         let t = table (code R) (code S) (code-below R 64 f) in
         record {
@@ -91,7 +91,7 @@ module _ (s : RuleSet) (proper : Proper s) where
         }
 
     -- an entry says that the role is below the other, whatever the roles
-    pub role-entry : length rows ≡ 128 → (R S : Role) → T (leads rows (code R) (code S)) → Below s R S
+    pub role-entry : length rows ≡ 128 → (R S : Role) → T (flag rows (code R) (code S)) → Below s R S
     role-entry tall R S t =
         ⊎-elim
         (λ l. from-codes R S (table (code R) (code S) l .sound t))
@@ -101,7 +101,7 @@ module _ (s : RuleSet) (proper : Proper s) where
   -- the table of marks, where it is known which roles are below which
   module _ (below : Role → Role → Bool) (sound : (R S : Role) → T (below R S) → Below s R S)
       (complete : (R S : Role) → RoleFits R → RoleFits S → Below s R S → T (below R S))
-      (rows : List (List Bool)) (table : (a b : ℕ) → a < 192 → Tells (leads rows a b) (Star (Step (markStep s below) 192) a b)) where
+      (rows : List (List Bool)) (table : (a b : ℕ) → a < 192 → Tells (flag rows a b) (Star (Step (markStep s below) 192) a b)) where
     from-mark-codes : (B C : Mark) → MarkFits B → MarkFits C → Star (Step (markStep s below) 192) (markCode B) (markCode C) → Implies s B C
     from-mark-codes B C f g p =
         let q : Implies s (markOf (markCode B)) (markOf (markCode C)) =
@@ -119,7 +119,7 @@ module _ (s : RuleSet) (proper : Proper s) where
         then here (subst (λ (D : Mark). T (markGives s below (markOf (markCode B)) D)) (sym (mark-of-code C (w .1))) g, mark-code-below C (w .1)))
         (mark-edge-gives s proper below complete e)
 
-    pub mark-table : (B C : Mark) → MarkFits B → MarkFits C → Tells (leads rows (markCode B) (markCode C)) (Implies s B C)
+    pub mark-table : (B C : Mark) → MarkFits B → MarkFits C → Tells (flag rows (markCode B) (markCode C)) (Implies s B C)
     mark-table B C f g =
         let t = table (markCode B) (markCode C) (mark-code-below B f) in
         record {
@@ -130,10 +130,10 @@ module _ (s : RuleSet) (proper : Proper s) where
 -- both tables together
 module _ (s : RuleSet) (proper : Proper s) (c : Consequences) where
   abbrev entryBelow : Role → Role → Bool
-  entryBelow = entryOf (c .roles .rows)
+  entryBelow = entryOf (c .roles .cells)
 
-  module _ (roles : (a b : ℕ) → a < 128 → Tells (leads (c .roles .rows) a b) (Star (Step (roleStep s) 128) a b))
-      (marks : (a b : ℕ) → a < 192 → Tells (leads (c .marks .rows) a b) (Star (Step (markStep s (entryOf (c .roles .rows))) 192) a b)) where
+  module _ (roles : (a b : ℕ) → a < 128 → Tells (flag (c .roles .cells) a b) (Star (Step (roleStep s) 128) a b))
+      (marks : (a b : ℕ) → a < 192 → Tells (flag (c .marks .cells) a b) (Star (Step (markStep s (entryOf (c .roles .cells))) 192) a b)) where
     role-listed : (R S : Role) → (roleListed R && roleListed S) ≡ true → RoleFits R × RoleFits S
     role-listed R S e =
         let w = and-parts (roleListed R) (roleListed S) e in
@@ -145,7 +145,7 @@ module _ (s : RuleSet) (proper : Proper s) (c : Consequences) where
     told-below : (R S : Role) → Tells (toldBelow c R S) (Below s R S)
     told-below R S =
         told (Below s) R S (roleListed R && roleListed S) (entryBelow R S) (sameRole R S) (λ a. here)
-        (λ e. role-table s proper (c .roles .rows) roles R S (role-listed R S e .0))
+        (λ e. role-table s proper (c .roles .cells) roles R S (role-listed R S e .0))
         (role-eq R S)
         (λ e. subst (λ (Q : Role). sameRole R Q ≡ true) e (role-self R))
         (λ o p.
@@ -162,7 +162,7 @@ module _ (s : RuleSet) (proper : Proper s) (c : Consequences) where
     mark-listed (Has R) e = ltb-true (linkOf R .0) 64 e
 
     whole : (R S : Role) → RoleFits R → RoleFits S → Below s R S → T (entryBelow R S)
-    whole R S f g p = role-table s proper (c .roles .rows) roles R S f .complete p
+    whole R S f g p = role-table s proper (c .roles .cells) roles R S f .complete p
 
     implies-fits : (B C : Mark) → Implies s B C → (B ≡ C) ⊎ (MarkFits B × MarkFits C)
     implies-fits B C p =
@@ -170,10 +170,10 @@ module _ (s : RuleSet) (proper : Proper s) (c : Consequences) where
 
     told-implies : (B C : Mark) → Tells (toldImplies c B C) (Implies s B C)
     told-implies B C =
-        told (Implies s) B C (markListed B && markListed C) (leads (c .marks .rows) (markCode B) (markCode C)) (sameMark B C) (λ a. here)
+        told (Implies s) B C (markListed B && markListed C) (flag (c .marks .cells) (markCode B) (markCode C)) (sameMark B C) (λ a. here)
         (λ e.
         let w = and-parts (markListed B) (markListed C) e in
-        mark-table s proper entryBelow (role-entry s proper (c .roles .rows) roles (c .roles .tall)) whole (c .marks .rows) marks B C (mark-listed B (w .0)) (mark-listed C (w .1)))
+        mark-table s proper entryBelow (role-entry s proper (c .roles .cells) roles (c .roles .tall)) whole (c .marks .cells) marks B C (mark-listed B (w .0)) (mark-listed C (w .1)))
         (mark-eq B C)
         (λ e. subst (λ (D : Mark). sameMark B D ≡ true) e (mark-self B))
         (λ o p.

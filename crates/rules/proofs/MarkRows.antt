@@ -12,8 +12,6 @@ use Rattle.std.proofs.shelf.Tests.{cases-eq, cases-lt, lt-ltb, le-ltb, lt-leb, 
 use Rattle.std.specs.shelf.Maps.{nth}
 use Rattle.std.specs.declared.option.Option.{Option}
 use Rattle.std.specs.declared.option.Option.the-variants.{Some, None}
-use Rattle.graph.specs.Tables.{leads}
-use Rattle.graph.proofs.Tabled.{no-row}
 use Rattle.league.specs.Roles.{code, linkOf}
 use Rattle.league.specs.declared.facts.Kind.{Kind}
 use Rattle.league.specs.declared.roles.Role.{Role}
@@ -29,6 +27,7 @@ use Rattle.rules.specs.Tables.{means}
 use Rattle.rules.specs.declared.pair.Pair.{Pair}
 use Rattle.rules.specs.declared.table.RuleTable.{RuleTable}
 use Rattle.rules.proofs.Coded.{code-role, even-role, odd-role, small-mark, large-mark, code-mark, mark-within-code}
+use Rattle.rules.proofs.Flagged.{no-row}
 use Rattle.rules.proofs.Kept.{table-proper}
 use Rattle.rules.proofs.Numbered.{number-at, number-in}
 use Rattle.rules.proofs.RoleRows.{or-none}
@@ -287,14 +286,14 @@ module _ (rows : List (List Bool)) (i k : ℕ) where
   pub lifts-low : i < 64 → liftsRole (entryOf rows) (markOf i) (markOf k) ≡ false
   lifts-low l = ap (λ (B : Mark). liftsRole (entryOf rows) B (markOf k)) (small-mark i l)
 
-  pub lifts-row : 64 ≤ i → (leb 64 k && leads rows (i - 64) (k - 64)) ≡ liftsRole (entryOf rows) (markOf i) (markOf k)
+  pub lifts-row : 64 ≤ i → (leb 64 k && flag rows (i - 64) (k - 64)) ≡ liftsRole (entryOf rows) (markOf i) (markOf k)
   lifts-row l =
       sym
       (ap (λ (B : Mark). liftsRole (entryOf rows) B (markOf k)) (large-mark i l)
       ∙ ⊎-elim
       (λ h.
       ap (liftsRole (entryOf rows) (Has (roleOf (i - 64)))) (small-mark k h)
-      ∙ sym (and-left (leb 64 k) (leads rows (i - 64) (k - 64)) (lt-leb 64 k h)))
+      ∙ sym (and-left (leb 64 k) (flag rows (i - 64) (k - 64)) (lt-leb 64 k h)))
       (λ h.
       ap (liftsRole (entryOf rows) (Has (roleOf (i - 64)))) (large-mark k h)
       ∙ rw (code-role (i - 64), code-role (k - 64), le-leb 64 k h) refl)
@@ -303,4 +302,4 @@ module _ (rows : List (List Bool)) (i k : ℕ) where
   pub lifts-high : length rows ≡ 128 → 192 ≤ i → liftsRole (entryOf rows) (markOf i) (markOf k) ≡ false
   lifts-high tall l =
       sym (lifts-row (omega arith))
-      ∙ and-right (leb 64 k) (leads rows (i - 64) (k - 64)) (sym (no-row rows (i - 64) (k - 64) (omega arith)))
+      ∙ and-right (leb 64 k) (flag rows (i - 64) (k - 64)) (sym (no-row rows (i - 64) (k - 64) (omega arith)))

@@ -6,7 +6,6 @@ use lib.Dec.{leb}
 use Rattle.std.specs.shelf.Maps.{nth}
 use Rattle.std.specs.declared.option.Option.{Option}
 use Rattle.std.specs.declared.option.Option.the-variants.{Some, None}
-use Rattle.graph.specs.Tables.{leads}
 use Rattle.league.specs.Roles.{code, inverse}
 use Rattle.league.specs.declared.facts.Kind.{Kind}
 use Rattle.league.specs.declared.roles.Role.{Role}
@@ -15,6 +14,7 @@ use Rattle.league.specs.declared.roles.Mark.{Mark}
 use Rattle.league.specs.declared.roles.Mark.the-variants.{Is, Has}
 use Rattle.league.specs.declared.rules.Rule.the-variants.{Inclusion, Required, RoleInclusion}
 use Rattle.rules.specs.Codes.{roleOf, markOf}
+use Rattle.rules.specs.Flags.{flag}
 use Rattle.rules.specs.Marks.{sameKind, sameRole}
 use Rattle.rules.specs.RuleSet.{RuleSet}
 use Rattle.rules.specs.declared.pair.Pair.{Pair}
@@ -37,7 +37,7 @@ liftsRole below (Has R) (Has S) = below R S
 
 -- the entry of two roles in a table by code
 abbrev pub entryOf : List (List Bool) → Role → Role → Bool
-entryOf rows R S = leads rows (code R) (code S)
+entryOf cells R S = flag cells (code R) (code S)
 
 module _ (s : RuleSet) where
   -- the role is a hidden link and the other the role of its pair, or both turned

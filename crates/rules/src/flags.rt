@@ -1,6 +1,6 @@
 //! A table of flags with fixed numbers of rows and columns, at first all unset.
 ghost use mathlib.Core.Path.{_≡_};
-ghost use mathlib.Core.Bool.{false, _&&_, _||_};
+ghost use mathlib.Core.Bool.{false, cond, _&&_, _||_};
 ghost use Prim.Native.Nat.{ℕ, _<_};
 ghost use mathlib.Core.List.{[]};
 ghost use lib.Dec.{eqb};
@@ -11,6 +11,7 @@ ghost use Rattle.rules.specs.Flags.{flag};
 #[derive(Clone, Copy)]
 pub struct Flags<const ROWS: usize, const COLUMNS: usize> {
     cells: [[bool; COLUMNS]; ROWS],
+    ghost tall: { length cells ≡ ROWS },
     ghost wide: { (i : ℕ) → i < ROWS → length (getD cells i []) ≡ COLUMNS },
 }
 
@@ -38,6 +39,27 @@ impl<const ROWS: usize, const COLUMNS: usize> Flags<ROWS, COLUMNS> {
         ensures { λ r. ⌜ ((column : ℕ) → getD r column false ≡ flag (now (self .entry) .cells) row column) ⌝ }
     {
         self.cells[row]
+    }
+
+    /// Whether the flag is set; outside the table none is.
+    pub fn is_set(&self, row: usize, column: usize) -> bool
+        ensures { λ r. ⌜ r ≡ flag (now (self .entry) .cells) row column ⌝ }
+    {
+        if row >= ROWS {
+            return false;
+        }
+        if column >= COLUMNS {
+            return false;
+        }
+        self.cells[row][column]
+    }
+
+    /// Makes the flags of a row others.
+    pub fn put(&mut self, row: usize, flags: [bool; COLUMNS])
+        requires { ⌜ row < ROWS ⌝ }
+        ensures { λ _. ⌜ ((i j : ℕ) → flag (now (self .exit) .cells) i j ≡ cond (eqb i row) (getD (flags .entry) j false) (flag (now (self .entry) .cells) i j)) ⌝ }
+    {
+        self.cells[row] = flags;
     }
 
     /// Sets a flag.

@@ -4,19 +4,19 @@ ghost use mathlib.Core.Bool.{false};
 ghost use Prim.Native.Nat.{ℕ, _<_};
 ghost use lib.ListN.{getD};
 ghost use Rattle.graph.specs.Paths.{Tells, Star, Step};
-ghost use Rattle.graph.specs.Tables.{leads};
 ghost use Rattle.rules.specs.Consequences.{roleListed, markListed, toldBelow, toldImplies, Decides};
+ghost use Rattle.rules.specs.Flags.{flag};
 ghost use Rattle.rules.specs.Marks.{sameRole, sameMark};
 ghost use Rattle.rules.specs.Steps.{roleStep, markStep, entryOf};
 ghost use Rattle.rules.specs.Tables.{means};
 use crate::consequences::Consequences;
+use crate::flags::Flags;
 use crate::mark_graph::MarkGraph;
 use crate::mark_graph::MarkGraphEdges;
 use crate::ranges::mark_code;
 use crate::role_graph::RoleGraph;
 use crate::table::RuleTable;
 use graph::search::reach;
-use graph::table::NodeTable;
 use league::roles::Mark;
 use league::roles::MarkPartialEq;
 use league::roles::Role;
@@ -36,7 +36,7 @@ fn role_row(table: &RuleTable, node: usize) -> [bool; 128]
 /// The marks that a mark implies.
 fn mark_row(graph: &MarkGraph<'_>, node: usize) -> [bool; 192]
     requires { ⌜ node < 192 ⌝ }
-    ensures { λ r. ⌜ ((k : ℕ) → Tells (getD r k false) (Star (Step (markStep (means (now (now (graph .entry) .table))) (entryOf (now (now (graph .entry) .below) .rows))) 192) node k)) ⌝ }
+    ensures { λ r. ⌜ ((k : ℕ) → Tells (getD r k false) (Star (Step (markStep (means (now (now (graph .entry) .table))) (entryOf (now (now (graph .entry) .below) .cells))) 192) node k)) ⌝ }
 {
     let mut set = [false; 192];
     set[node] = true;
@@ -45,10 +45,10 @@ fn mark_row(graph: &MarkGraph<'_>, node: usize) -> [bool; 192]
 }
 
 /// The roles that are above each role.
-fn role_table(table: &RuleTable) -> NodeTable<128>
-    ensures { λ r. ⌜ ((a b : ℕ) → a < 128 → Tells (leads (r .rows) a b) (Star (Step (roleStep (means (now (table .entry)))) 128) a b)) ⌝ }
+fn role_table(table: &RuleTable) -> Flags<128, 128>
+    ensures { λ r. ⌜ ((a b : ℕ) → a < 128 → Tells (flag (r .cells) a b) (Star (Step (roleStep (means (now (table .entry)))) 128) a b)) ⌝ }
 {
-    let mut rows = NodeTable::new();
+    let mut rows = Flags::new();
     for node in 0..128 {
         rows.put(node, role_row(table, node));
     }
@@ -56,11 +56,11 @@ fn role_table(table: &RuleTable) -> NodeTable<128>
 }
 
 /// The marks that each mark implies, where it is known which roles are above which.
-fn mark_table<'a>(table: &'a RuleTable, below: &'a NodeTable<128>) -> NodeTable<192>
-    ensures { λ r. ⌜ ((a b : ℕ) → a < 192 → Tells (leads (r .rows) a b) (Star (Step (markStep (means (now (table .entry))) (entryOf (now (below .entry) .rows))) 192) a b)) ⌝ }
+fn mark_table<'a>(table: &'a RuleTable, below: &'a Flags<128, 128>) -> Flags<192, 192>
+    ensures { λ r. ⌜ ((a b : ℕ) → a < 192 → Tells (flag (r .cells) a b) (Star (Step (markStep (means (now (table .entry))) (entryOf (now (below .entry) .cells))) 192) a b)) ⌝ }
 {
     let graph = MarkGraph { table, below };
-    let mut rows = NodeTable::new();
+    let mut rows = Flags::new();
     for node in 0..192 {
         rows.put(node, mark_row(&graph, node));
     }
@@ -114,7 +114,7 @@ impl Consequences {
         ensures { λ r. ⌜ r ≡ toldBelow (now (self .entry)) sub sup ⌝ }
     {
         if is_role_listed(sub) && is_role_listed(sup) {
-            return self.roles.has(sub.code() as usize, sup.code() as usize);
+            return self.roles.is_set(sub.code() as usize, sup.code() as usize);
         }
         same_role(sub, sup)
     }
@@ -124,7 +124,7 @@ impl Consequences {
         ensures { λ r. ⌜ r ≡ toldImplies (now (self .entry)) sub sup ⌝ }
     {
         if is_mark_listed(sub) && is_mark_listed(sup) {
-            return self.marks.has(mark_code(sub), mark_code(sup));
+            return self.marks.is_set(mark_code(sub), mark_code(sup));
         }
         same_mark(sub, sup)
     }

@@ -8,17 +8,17 @@ ghost use Rattle.league.specs.declared.rules.Rule.the-variants.{Inclusion as In
 ghost use Rattle.rules.specs.Codes.{markOf};
 ghost use Rattle.rules.specs.Steps.{needsHidden, landsHidden, liftsRole, entryOf, markStep};
 ghost use Rattle.rules.specs.Tables.{means};
+use crate::flags::Flags;
 use crate::table::RuleTable;
 use graph::contract::Graph;
 use graph::rows::add_node;
 use graph::rows::add_row;
-use graph::table::NodeTable;
 
 /// The rules, and the table of the roles that are below one another.
 #[derive(Clone, Copy)]
 pub struct MarkGraph<'a> {
     pub table: &'a RuleTable,
-    pub below: &'a NodeTable<128>,
+    pub below: &'a Flags<128, 128>,
 }
 
 /// Adds the marks that an accepted inclusion puts above a mark.
@@ -62,8 +62,8 @@ fn add_landed(table: &RuleTable, node: usize, set: &mut [bool])
 }
 
 /// Adds having a partner by each role above the role of a mark.
-fn add_lifted(below: &NodeTable<128>, node: usize, set: &mut [bool])
-    ensures { λ _. ⌜ ((k : ℕ) → k < length (now (set .entry)) → getD (now (set .exit)) k false ≡ (getD (now (set .entry)) k false || liftsRole (entryOf (now (below .entry) .rows)) (markOf node) (markOf k))) ⌝ }
+fn add_lifted(below: &Flags<128, 128>, node: usize, set: &mut [bool])
+    ensures { λ _. ⌜ ((k : ℕ) → k < length (now (set .entry)) → getD (now (set .exit)) k false ≡ (getD (now (set .entry)) k false || liftsRole (entryOf (now (below .entry) .cells)) (markOf node) (markOf k))) ⌝ }
 {
     if node < 64 {
         return;
@@ -75,7 +75,7 @@ fn add_lifted(below: &NodeTable<128>, node: usize, set: &mut [bool])
 }
 
 pub impl<'a> Graph for MarkGraph<'a> as MarkGraphEdges {
-    ghost edge = { λ g i j. markStep (means (held (g .table))) (entryOf (held (g .below) .rows)) i j };
+    ghost edge = { λ g i j. markStep (means (held (g .table))) (entryOf (held (g .below) .cells)) i j };
 
     fn add_successors(&self, node: usize, set: &mut [bool]) {
         add_included(self.table, node, set);

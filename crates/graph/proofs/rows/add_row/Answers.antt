@@ -2,7 +2,7 @@ use mathlib.Core.Path.{ap, _∙_}
 use mathlib.Core.Bool.{Bool, false, _||_}
 use native.Mathlib.Omega.{arith}
 use lib.ListN.{getD}
-use Rattle.graph.proofs.Tabled.{read-whole}
+use Rattle.graph.proofs.Shifted.{read-whole}
 use Rattle.graph.proofs.rows.add_row.Needs as need
 
 pub returns : need.returns

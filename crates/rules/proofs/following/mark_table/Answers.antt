@@ -6,4 +6,4 @@ use Rattle.rules.proofs.following.mark_table.Needs as need
 
 pub loop-node-again : need.loop-node-again
 loop-node-again c =
-    row-more (Star (Step (markStep (means (c .args .table .now)) (entryOf (c .args .below .now .rows))) 192)) (c .loop-node .rows .rows) (c .put .last .self .rows) (c .loop-node .node) (c .mark-row .result) (c .put .ensures) (c .loop-node .inv) (c .mark-row .ensures)
+    row-more (Star (Step (markStep (means (c .args .table .now)) (entryOf (c .args .below .now .cells))) 192)) (c .loop-node .rows .cells) (c .put .last .self .cells) (c .loop-node .node) (c .mark-row .result) (c .put .ensures) (c .loop-node .inv) (c .mark-row .ensures)

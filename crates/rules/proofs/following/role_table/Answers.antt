@@ -6,4 +6,4 @@ use Rattle.rules.proofs.following.role_table.Needs as need
 
 pub loop-node-again : need.loop-node-again
 loop-node-again c =
-    row-more (Star (Step (roleStep (means (c .args .table .now))) 128)) (c .loop-node .rows .rows) (c .put .last .self .rows) (c .loop-node .node) (c .role-row .result) (c .put .ensures) (c .loop-node .inv) (c .role-row .ensures)
+    row-more (Star (Step (roleStep (means (c .args .table .now))) 128)) (c .loop-node .rows .cells) (c .put .last .self .cells) (c .loop-node .node) (c .role-row .result) (c .put .ensures) (c .loop-node .inv) (c .role-row .ensures)

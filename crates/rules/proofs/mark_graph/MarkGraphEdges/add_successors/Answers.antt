@@ -17,7 +17,7 @@ returns c k l =
     (s .rules (Inclusion B (markOf k)))
     (needsHidden s B (markOf k))
     (landsHidden s B (markOf k))
-    (liftsRole (entryOf (c .args .self .now .below .now .rows)) B (markOf k))
+    (liftsRole (entryOf (c .args .self .now .below .now .cells)) B (markOf k))
     (getD (c .add-included .last .set) k false)
     (getD (c .add-needed .last .set) k false)
     (getD (c .add-landed .last .set) k false)
