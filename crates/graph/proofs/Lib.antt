@@ -1,3 +1,3 @@
-mod Reaching
+pub mod Reaching
 pub mod Stars
-mod Tabled
+pub mod Tabled

@@ -1,7 +1,10 @@
+pub mod Coded
 pub mod Flagged
+pub mod Followed
 pub mod Gained
 pub mod Kept
 pub mod Marked
 pub mod Noting
 pub mod Numbered
 pub mod Paired
+pub mod Stepped

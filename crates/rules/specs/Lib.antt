@@ -1,3 +1,5 @@
+pub mod Codes
+pub mod Consequences
 pub mod Flags
 pub mod Follows
 pub mod InUse
@@ -5,4 +7,5 @@ pub mod Marks
 pub mod Noted
 pub mod Pairs
 pub mod RuleSet
+pub mod Steps
 pub mod Tables
