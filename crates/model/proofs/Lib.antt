@@ -1,9 +1,12 @@
 pub mod CanonicalLaws
 pub mod Completion
+pub mod Least
 pub mod Numbers
 pub mod PlainLaws
 pub mod Ranges
 pub mod Roles
 pub mod Searches
 pub mod Steps
+pub mod TableRows
+pub mod TabledLaws
 pub mod Tests

@@ -1,7 +1,7 @@
 -- Searches below a number, and rows that are filled from the left.
 use mathlib.Core.Path.{_≡_, refl, sym, ap, subst, _∙_}
 use mathlib.Core.Bool.{Bool, true, false, _&&_, _||_}
-use mathlib.Core.List.{List}
+use mathlib.Core.List.{List, []}
 use mathlib.Core.Logic.{inl, inr, ⊎-elim}
 use Prim.Native.Nat.{ℕ, zero, suc, _+_, _<_, _≤_}
 use native.Mathlib.Omega.{arith}
@@ -83,3 +83,16 @@ some-else n q b h e f = some-next n q ∙ (λ i. h i || (sym e ∙ f) i)
 -- nor at the end
 pub some-end : (n k : ℕ) (q : ℕ → Bool) → someBelow k q ≡ false → k ≤ n → n ≤ k → false ≡ someBelow n q
 some-end n k q h l m = sym h ∙ ap (λ j. someBelow j q) (omega arith)
+
+-- searches for tests that agree
+pub some-same : (n : ℕ) (p q : ℕ → Bool) → ((c : ℕ) → c < n → p c ≡ q c) → someBelow n p ≡ someBelow n q
+unfolding someBelow
+some-same zero p q e = refl
+some-same (suc n) p q e = λ i. some-same n p q (λ c l. e c (omega arith)) i || e n (omega arith) i
+
+-- a table with one row more
+pub row-own : (height : ℕ) (rows : List (List Bool)) (n i : ℕ) (row : List Bool) → length rows ≡ height → n < height → i ≡ n → row ≡ getD (set rows n row) i []
+row-own height rows n i row tall l e = sym (ap (λ k. getD (set rows n row) k []) e ∙ getD-set-same rows n row [] (omega arith))
+
+pub row-other : (rows : List (List Bool)) (n i : ℕ) (row : List Bool) → (i ≡ n → ⊥) → getD rows i [] ≡ getD (set rows n row) i []
+row-other rows n i row u = sym (getD-set-other rows n i row [] u)

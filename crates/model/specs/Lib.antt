@@ -1,8 +1,10 @@
 pub mod Canonical
 pub mod Elements
 pub mod Given
+pub mod LookedUp
 pub mod Plain
 pub mod Recorded
+pub mod RoleTests
 pub mod Rows
 pub mod Structures
 pub mod Tabled

@@ -1,9 +1,16 @@
 //! Structures of numbered elements, in which a question is matched, and models: structures whose elements
 //! are names or are reached from names by steps.
+pub mod canonical;
+pub mod canonical_model;
+mod canonical_tables;
 mod codes;
+mod elements;
 pub mod laws;
+mod look_up;
 pub mod model;
 mod name_rows;
 pub mod plain;
 mod recorded;
+mod role_tests;
 pub mod structure;
+mod tables;

@@ -83,8 +83,8 @@ module _ (s : RuleSet) (proper : Proper s) where
 
   -- the table of marks, where it is known which roles are below which
   module _ (below : Role → Role → Bool) (sound : (R S : Role) → T (below R S) → Below s R S)
-    (complete : (R S : Role) → RoleFits R → RoleFits S → Below s R S → T (below R S))
-    (rows : List (List Bool)) (table : (a b : ℕ) → a < 192 → Tells (leads rows a b) (Star (Step (markStep s below) 192) a b)) where
+      (complete : (R S : Role) → RoleFits R → RoleFits S → Below s R S → T (below R S))
+      (rows : List (List Bool)) (table : (a b : ℕ) → a < 192 → Tells (leads rows a b) (Star (Step (markStep s below) 192) a b)) where
     from-mark-codes : (B C : Mark) → MarkFits B → MarkFits C → Star (Step (markStep s below) 192) (markCode B) (markCode C) → Implies s B C
     from-mark-codes B C f g p =
         let q : Implies s (markOf (markCode B)) (markOf (markCode C)) =

@@ -206,7 +206,7 @@ module _ (s : RuleSet) where
             in-fits B (w .0),
             few i R k h,
             in-right (s .rules (Inclusion B C)) _
-            (in-left (needsHidden s B C) _ (from-both (leb 32 (32 + i)) (requiresPair s B (nth (s .pairs) ((32 + i) - 32))) (is-hidden i) r)),
+                (in-left (needsHidden s B C) _ (from-both (leb 32 (32 + i)) (requiresPair s B (nth (s .pairs) ((32 + i) - 32))) (is-hidden i) r)),
           )
       mark-edge-gives (lands i R k h) =
           let B : Mark = Has (Backward (hidden i)) in
@@ -214,10 +214,10 @@ module _ (s : RuleSet) where
             few i R k h,
             proper .pairsIn i (pairOf R k) h .1,
             in-right (s .rules (Inclusion B (Is k))) _
-            (in-right (needsHidden s B (Is k)) _
-            (in-left (landsHidden s B (Is k)) _
-            (from-both (leb 32 (32 + i)) (ofKind (nth (s .pairs) ((32 + i) - 32)) k) (is-hidden i)
-            (pair-kind (nth (s .pairs) ((32 + i) - 32)) R k (at-hidden i R k h))))),
+                (in-right (needsHidden s B (Is k)) _
+                (in-left (landsHidden s B (Is k)) _
+                (from-both (leb 32 (32 + i)) (ofKind (nth (s .pairs) ((32 + i) - 32)) k) (is-hidden i)
+                (pair-kind (nth (s .pairs) ((32 + i) - 32)) R k (at-hidden i R k h))))),
           )
       mark-edge-gives (lifts R S b) =
           ⊎-elim
@@ -227,7 +227,7 @@ module _ (s : RuleSet) where
             f .0,
             f .1,
             in-right (s .rules (Inclusion (Has R) (Has S))) _
-            (in-right (needsHidden s (Has R) (Has S)) _
-            (in-right (landsHidden s (Has R) (Has S)) _ (complete R S (f .0) (f .1) b))),
+                (in-right (needsHidden s (Has R) (Has S)) _
+                (in-right (landsHidden s (Has R) (Has S)) _ (complete R S (f .0) (f .1) b))),
           ))
           (below-fits b)
