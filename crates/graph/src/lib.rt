@@ -1,6 +1,6 @@
 //! Graphs: which nodes paths of edges lead to.
-pub mod closing;
 pub mod contract;
+pub mod leading;
 pub mod rows;
 pub mod search;
 pub mod table;

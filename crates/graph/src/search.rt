@@ -4,7 +4,7 @@ ghost use mathlib.Core.Bool.{false};
 ghost use Prim.Native.Nat.{ℕ, _<_, _≤_};
 ghost use lib.ListN.{length, getD};
 ghost use Rattle.std.specs.Options.{Cases as BySome};
-ghost use Rattle.graph.specs.Paths.{In, Tells, Star, Step, Reached};
+ghost use Rattle.graph.specs.Paths.{In, Tells, Reached};
 use crate::contract::Graph;
 
 /// The first node of a set that is not finished.
@@ -20,25 +20,15 @@ fn next_open(set: &[bool], finished: &[bool]) -> Option<usize>
     None
 }
 
-/// The nodes that paths of edges lead to from a set of nodes.
-pub fn reach<G: Graph<N>, const N: usize>(graph: &G, from: [bool; N]) -> [bool; N]
-    ensures { λ r. ⌜ ((k : ℕ) → Tells (getD r k false) (Reached (G·Graph .edge (now (graph .entry))) (from .entry) k)) ⌝ }
+/// Adds to a set all nodes that paths of edges lead to from its nodes. The graph's nodes are those that the set has
+/// flags for, at most 192.
+pub fn reach<G: Graph>(graph: &G, set: &mut [bool])
+    requires { ⌜ length (now set) ≤ 192 ⌝ }
+    ensures { λ _. ⌜ ((k : ℕ) → Tells (getD (now (set .exit)) k false) (Reached (G·Graph .edge (now (graph .entry))) (now (set .entry)) k)) ⌝ }
 {
-    let mut set = from;
-    let mut finished = [false; N];
-    while let Some(node) = next_open(&set, &finished) {
+    let mut finished = [false; 192];
+    while let Some(node) = next_open(set, &finished) {
         finished[node] = true;
-        set = graph.with_successors(node, set);
+        graph.add_successors(node, set);
     }
-    set
-}
-
-/// The nodes that paths of edges lead to from one node.
-pub fn reach_from<G: Graph<N>, const N: usize>(graph: &G, node: usize) -> [bool; N]
-    requires { ⌜ node < N ⌝ }
-    ensures { λ r. ⌜ ((k : ℕ) → Tells (getD r k false) (Star (Step (G·Graph .edge (now (graph .entry))) N) node k)) ⌝ }
-{
-    let mut from = [false; N];
-    from[node] = true;
-    reach(graph, from)
 }

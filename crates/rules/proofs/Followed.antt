@@ -7,7 +7,7 @@ use Prim.Native.Nat.{ℕ, _+_, _-_, _<_, _≤_}
 use native.Mathlib.Omega.{arith}
 use lib.Dec.{T, ltb}
 use lib.ListN.{length}
-use Rattle.std.proofs.shelf.Tests.{cases-bool, cases-lt, ltb-true, lt-ltb, and-parts, and-from, cond-true, cond-false}
+use Rattle.std.proofs.shelf.Tests.{cases-bool, cases-lt, ltb-true, lt-ltb, and-parts, and-from, both-ways}
 use Rattle.graph.specs.Paths.{Star, here, then, Step, Tells}
 use Rattle.graph.specs.Tables.{leads}
 use Rattle.graph.proofs.Stars.{star-map, star-same, star-ends}
@@ -21,7 +21,7 @@ use Rattle.rules.specs.Consequences.{roleListed, markListed, toldBelow, toldIm
 use Rattle.rules.specs.Follows.{RoleEdge, Below, MarkEdge, Implies}
 use Rattle.rules.specs.Marks.{sameRole, sameMark, markCode}
 use Rattle.rules.specs.RuleSet.{RuleSet, Proper}
-use Rattle.rules.specs.Steps.{roleGives, roleStep, markGives, markStep}
+use Rattle.rules.specs.Steps.{roleGives, roleStep, entryOf, markGives, markStep}
 use Rattle.rules.specs.declared.consequences.Consequences.{Consequences}
 use Rattle.rules.proofs.Coded.{code-role, role-of-code, code-below, small-mark, large-mark}
 use Rattle.rules.proofs.Marked.{T-true, true-T, role-self, role-eq, mark-self, mark-eq}
@@ -109,3 +109,63 @@ module _ (s : RuleSet) (proper : Proper s) where
           sound = λ h. from-mark-codes B C f g (t .sound h);
           complete = λ p. t .complete (star-map markCode step-mark-codes p);
         }
+
+-- both tables together
+module _ (s : RuleSet) (proper : Proper s) (c : Consequences) where
+  abbrev entryBelow : Role → Role → Bool
+  entryBelow = entryOf (c .roles .rows)
+
+  module _ (roles : (a b : ℕ) → a < 128 → Tells (leads (c .roles .rows) a b) (Star (Step (roleStep s) 128) a b))
+      (marks : (a b : ℕ) → a < 192 → Tells (leads (c .marks .rows) a b) (Star (Step (markStep s (entryOf (c .roles .rows))) 192) a b)) where
+    role-listed : (R S : Role) → (roleListed R && roleListed S) ≡ true → RoleFits R × RoleFits S
+    role-listed R S e =
+        let w = and-parts (roleListed R) (roleListed S) e in
+        (ltb-true (linkOf R .0) 64 (w .0), ltb-true (linkOf S .0) 64 (w .1))
+
+    listed-role : (R S : Role) → RoleFits R → RoleFits S → (roleListed R && roleListed S) ≡ true
+    listed-role R S f g = and-from (roleListed R) (roleListed S) (lt-ltb (linkOf R .0) 64 f) (lt-ltb (linkOf S .0) 64 g)
+
+    told-below : (R S : Role) → Tells (toldBelow c R S) (Below s R S)
+    told-below R S =
+        told (Below s) R S (roleListed R && roleListed S) (entryBelow R S) (sameRole R S) (λ a. here)
+        (λ e. role-table s proper (c .roles .rows) roles R S (role-listed R S e .0))
+        (role-eq R S)
+        (λ e. subst (λ (Q : Role). sameRole R Q ≡ true) e (role-self R))
+        (λ o p.
+        ⊎-elim (λ e. e)
+        (λ f. absurd (both-ways (roleListed R && roleListed S) o (listed-role R S (f .0) (f .1))))
+        (below-fits s proper p))
+
+    listed-mark : (B : Mark) → MarkFits B → markListed B ≡ true
+    listed-mark (Is k) f = lt-ltb (k .0) 64 f
+    listed-mark (Has R) f = lt-ltb (linkOf R .0) 64 f
+
+    mark-listed : (B : Mark) → markListed B ≡ true → MarkFits B
+    mark-listed (Is k) e = ltb-true (k .0) 64 e
+    mark-listed (Has R) e = ltb-true (linkOf R .0) 64 e
+
+    whole : (R S : Role) → RoleFits R → RoleFits S → Below s R S → T (entryBelow R S)
+    whole R S f g p = role-table s proper (c .roles .rows) roles R S f .complete p
+
+    implies-fits : (B C : Mark) → Implies s B C → (B ≡ C) ⊎ (MarkFits B × MarkFits C)
+    implies-fits B C p =
+        star-ends MarkFits (λ x y e. ⊎-elim inl (λ w. inr (w .0, w .1)) (mark-edge-gives s proper entryBelow whole e)) p
+
+    told-implies : (B C : Mark) → Tells (toldImplies c B C) (Implies s B C)
+    told-implies B C =
+        told (Implies s) B C (markListed B && markListed C) (leads (c .marks .rows) (markCode B) (markCode C)) (sameMark B C) (λ a. here)
+        (λ e.
+        let w = and-parts (markListed B) (markListed C) e in
+        mark-table s proper entryBelow (role-entry s proper (c .roles .rows) roles (c .roles .tall)) whole (c .marks .rows) marks B C (mark-listed B (w .0)) (mark-listed C (w .1)))
+        (mark-eq B C)
+        (λ e. subst (λ (D : Mark). sameMark B D ≡ true) e (mark-self B))
+        (λ o p.
+        ⊎-elim (λ e. e)
+        (λ f.
+        absurd
+        (both-ways (markListed B && markListed C) o
+        (and-from (markListed B) (markListed C) (listed-mark B (f .0)) (listed-mark C (f .1)))))
+        (implies-fits B C p))
+
+    pub decided : Decides c s
+    decided = record { below = told-below; implies = told-implies }

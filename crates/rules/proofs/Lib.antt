@@ -3,8 +3,10 @@ pub mod Flagged
 pub mod Followed
 pub mod Gained
 pub mod Kept
+pub mod MarkRows
 pub mod Marked
 pub mod Noting
 pub mod Numbered
 pub mod Paired
+pub mod RoleRows
 pub mod Stepped

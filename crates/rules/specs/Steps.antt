@@ -1,11 +1,13 @@
 -- What the rules give at once, as tests: the edges of the graphs of roles and of marks.
 use mathlib.Core.Bool.{Bool, false, _&&_, _||_}
+use mathlib.Core.List.{List}
 use Prim.Native.Nat.{ℕ, _-_}
 use lib.Dec.{leb}
 use Rattle.std.specs.shelf.Maps.{nth}
 use Rattle.std.specs.declared.option.Option.{Option}
 use Rattle.std.specs.declared.option.Option.the-variants.{Some, None}
-use Rattle.league.specs.Roles.{inverse}
+use Rattle.graph.specs.Tables.{leads}
+use Rattle.league.specs.Roles.{code, inverse}
 use Rattle.league.specs.declared.facts.Kind.{Kind}
 use Rattle.league.specs.declared.roles.Role.{Role}
 use Rattle.league.specs.declared.roles.Role.the-variants.{Forward, Backward}
@@ -32,6 +34,10 @@ abbrev pub liftsRole : (Role → Role → Bool) → Mark → Mark → Bool
 liftsRole below (Is k) C = false
 liftsRole below (Has R) (Is k) = false
 liftsRole below (Has R) (Has S) = below R S
+
+-- the entry of two roles in a table by code
+abbrev pub entryOf : List (List Bool) → Role → Role → Bool
+entryOf rows R S = leads rows (code R) (code S)
 
 module _ (s : RuleSet) where
   -- the role is a hidden link and the other the role of its pair, or both turned

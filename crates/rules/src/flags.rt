@@ -32,6 +32,14 @@ impl<const ROWS: usize, const COLUMNS: usize> Flags<ROWS, COLUMNS> {
         self.cells[row][column]
     }
 
+    /// The flags of a row.
+    pub fn row(&self, row: usize) -> [bool; COLUMNS]
+        requires { ⌜ row < ROWS ⌝ }
+        ensures { λ r. ⌜ ((column : ℕ) → getD r column false ≡ flag (now (self .entry) .cells) row column) ⌝ }
+    {
+        self.cells[row]
+    }
+
     /// Sets a flag.
     pub fn set(&mut self, row: usize, column: usize)
         requires within { ⌜ row < ROWS ⌝ ∗ ⌜ column < COLUMNS ⌝ }

@@ -2,8 +2,10 @@
 pub mod consequences;
 pub mod entries;
 mod flags;
+mod mark_graph;
 mod numbering;
 pub mod pair;
 mod pairs;
 mod ranges;
+mod role_graph;
 pub mod table;

@@ -3,7 +3,7 @@ use mathlib.Core.Path.{_≡_}
 use native.Mathlib.Omega.{arith}
 use lib.ListN.{length}
 use Rattle.graph.proofs.Tabled.{no-row, no-column}
-use Rattle.graph.proofs.table.ReachTable.has.Needs as need
+use Rattle.graph.proofs.table.NodeTable.has.Needs as need
 
 pub returns-then-from : need.returns-then-from
 returns-then-from g c =
