@@ -24,7 +24,7 @@ fn is_joined_by<S: Store>(
     ensures { λ r. ⌜ r ≡ nameFact (tabled (now (model .entry) .tables)) (S·Store .means (now (model .entry) .store .now) .facts) role from to code ⌝ }
 {
     let narrower = role_of(code);
-    model.tables.consequences.is_below(narrower, role)
+    model.tables.consequences.below(narrower, role)
         && model.store.has(fact_of(narrower, Name(from), Name(to)))
 }
 

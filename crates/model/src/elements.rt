@@ -131,7 +131,7 @@ impl CanonicalTables<'_> {
         if to < self.names {
             return false;
         }
-        self.steps(from, to) && self.consequences.is_below(self.role_at(to), role)
+        self.steps(from, to) && self.consequences.below(self.role_at(to), role)
     }
 
     /// Whether a name has the kind.

@@ -5,6 +5,7 @@ pub mod canonical_model;
 mod canonical_tables;
 mod codes;
 mod elements;
+mod generating;
 pub mod laws;
 mod look_up;
 pub mod model;

@@ -21,7 +21,7 @@ fn is_above_both(consequences: &Consequences, role: Role, other: Role, code: u16
     ensures { λ r. ⌜ r ≡ aboveBoth (now (consequences .entry)) role other code ⌝ }
 {
     let above = role_of(code);
-    consequences.is_below(other.inverse(), above) && consequences.is_below(role, above)
+    consequences.below(other.inverse(), above) && consequences.below(role, above)
 }
 
 /// Whether some role is above the first role and above the other turned.

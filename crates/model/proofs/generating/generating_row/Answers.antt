@@ -1,0 +1,4 @@
+use Rattle.model.proofs.generating.generating_row.Needs as need
+
+pub returns : need.returns
+returns c = ?
