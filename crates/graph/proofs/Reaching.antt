@@ -1,5 +1,5 @@
 -- The reach search: what its sets keep from turn to turn, and what they hold at its end.
-use mathlib.Core.Path.{_≡_, refl, sym, ap, subst, _∙_}
+use mathlib.Core.Path.{_≡_, refl, sym, subst, _∙_}
 use mathlib.Core.List.{List, [], _∷_}
 use mathlib.Core.Logic.{_⊎_, inl, inr, ⊎-elim}
 use mathlib.Core.Bool.{Bool, true, false, not, cond, _||_}
@@ -19,15 +19,16 @@ in-below [] k t = absurd t
 in-below (x ∷ xs) zero t = omega arith
 in-below (x ∷ xs) (suc k) t = omega (arith, in-below xs k t)
 
-or-in : (x y : Bool) → T (x || y) → T x ⊎ T y
+-- one of two tests
+pub or-in : (x y : Bool) → T (x || y) → T x ⊎ T y
 or-in true y t = inl tt
 or-in false y t = inr t
 
-in-left : (x y : Bool) → T x → T (x || y)
+pub in-left : (x y : Bool) → T x → T (x || y)
 in-left true y t = tt
 in-left false y t = absurd t
 
-in-right : (x y : Bool) → T y → T (x || y)
+pub in-right : (x y : Bool) → T y → T (x || y)
 in-right true y t = tt
 in-right false y t = t
 

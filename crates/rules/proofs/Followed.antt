@@ -3,11 +3,11 @@ use mathlib.Core.Path.{_≡_, refl, sym, ap, subst, _∙_}
 use mathlib.Core.Bool.{Bool, true, false, cond, _&&_}
 use mathlib.Core.List.{List}
 use mathlib.Core.Logic.{_⊎_, inl, inr, ⊎-elim}
-use Prim.Native.Nat.{ℕ, _+_, _-_, _<_, _≤_}
+use Prim.Native.Nat.{ℕ, _+_, _-_, _<_}
 use native.Mathlib.Omega.{arith}
-use lib.Dec.{T, ltb}
-use lib.ListN.{length}
-use Rattle.std.proofs.shelf.Tests.{cases-bool, cases-lt, ltb-true, lt-ltb, and-parts, and-from, both-ways}
+use lib.Dec.{T, eqb}
+use lib.ListN.{length, getD}
+use Rattle.std.proofs.shelf.Tests.{cases-eq, cases-lt, ltb-true, lt-ltb, eq-eqb, ne-eqb, and-parts, and-from, both-ways, cond-true, cond-false}
 use Rattle.graph.specs.Paths.{Star, here, then, Step, Tells}
 use Rattle.graph.specs.Tables.{leads}
 use Rattle.graph.proofs.Stars.{star-map, star-same, star-ends}
@@ -23,7 +23,7 @@ use Rattle.rules.specs.Marks.{sameRole, sameMark, markCode}
 use Rattle.rules.specs.RuleSet.{RuleSet, Proper}
 use Rattle.rules.specs.Steps.{roleGives, roleStep, entryOf, markGives, markStep}
 use Rattle.rules.specs.declared.consequences.Consequences.{Consequences}
-use Rattle.rules.proofs.Coded.{code-role, role-of-code, code-below, small-mark, large-mark}
+use Rattle.rules.proofs.Coded.{role-of-code, code-below, small-mark, large-mark}
 use Rattle.rules.proofs.Marked.{T-true, true-T, role-self, role-eq, mark-self, mark-eq}
 use Rattle.rules.proofs.Stepped.{RoleFits, MarkFits, gives-edge, edge-gives, edge-fits, below-fits, gives-mark-edge, mark-edge-gives}
 
@@ -47,6 +47,23 @@ told P x y false entry same own table eq qe out = record {
   sound = λ t. subst (λ z. P x z) (eq (T-true same t)) (own x);
   complete = λ p. true-T same (qe (out refl p));
 }
+
+-- a table that tells a relation of the first nodes tells it of one more, once the row of that one is put
+pub row-more : (P : ℕ → ℕ → Type 0) (rows next : List (List Bool)) (i : ℕ) (row : List Bool)
+    → ((a b : ℕ) → leads next a b ≡ cond (eqb a i) (getD row b false) (leads rows a b))
+    → ((a b : ℕ) → a < i → Tells (leads rows a b) (P a b)) → ((b : ℕ) → Tells (getD row b false) (P i b))
+    → (a b : ℕ) → a < i + 1 → Tells (leads next a b) (P a b)
+row-more P rows next i row put was own a b l =
+    ⊎-elim
+    (λ (e : a ≡ i).
+    let t : Tells (getD row b false) (P a b) = subst (λ (n : ℕ). Tells (getD row b false) (P n b)) (sym e) (own b) in
+    subst (λ (x : Bool). Tells x (P a b)) (sym (put a b ∙ cond-true (eqb a i) (getD row b false) (leads rows a b) (eq-eqb a i e))) t)
+    (λ (ne : a ≡ i → ⊥).
+    let h : a < i = omega arith in
+    subst (λ (x : Bool). Tells x (P a b))
+    (sym (put a b ∙ cond-false (eqb a i) (getD row b false) (leads rows a b) (ne-eqb a i ne)))
+    (was a b h))
+    (cases-eq a i)
 
 module _ (s : RuleSet) (proper : Proper s) where
   -- the table of roles

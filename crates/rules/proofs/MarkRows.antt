@@ -2,13 +2,13 @@
 use mathlib.Core.Path.{_≡_, refl, sym, ap, _∙_}
 use mathlib.Core.Bool.{Bool, true, false, _&&_, _||_}
 use mathlib.Core.List.{List, [], _∷_}
-use mathlib.Core.Logic.{_⊎_, inl, inr, ⊎-elim}
+use mathlib.Core.Logic.{⊎-elim}
 use Prim.Native.Nat.{ℕ, zero, suc, _+_, _-_, _*_, _/_, _%_, _<_, _≤_}
 use native.Mathlib.Omega.{arith}
 use lib.Dec.{eqb, ltb, leb}
 use lib.ListN.{length, getD}
 use Rattle.std.proofs.shelf.Lists.{getD-past}
-use Rattle.std.proofs.shelf.Tests.{cases-eq, cases-lt, lt-ltb, le-ltb, lt-leb, le-leb, eq-eqb, ne-eqb, and-left, and-right, and-from}
+use Rattle.std.proofs.shelf.Tests.{cases-eq, cases-lt, lt-ltb, le-ltb, lt-leb, le-leb, eq-eqb, ne-eqb, and-left, and-right}
 use Rattle.std.specs.shelf.Maps.{nth}
 use Rattle.std.specs.declared.option.Option.{Option}
 use Rattle.std.specs.declared.option.Option.the-variants.{Some, None}
@@ -20,12 +20,10 @@ use Rattle.league.specs.declared.roles.Role.{Role}
 use Rattle.league.specs.declared.roles.Role.the-variants.{Forward, Backward}
 use Rattle.league.specs.declared.roles.Mark.{Mark}
 use Rattle.league.specs.declared.roles.Mark.the-variants.{Is, Has}
-use Rattle.league.specs.declared.rules.Rule.the-variants.{Inclusion, Required}
+use Rattle.league.specs.declared.rules.Rule.the-variants.{Inclusion}
 use Rattle.rules.specs.Codes.{roleOf, markOf}
 use Rattle.rules.specs.Flags.{flag}
-use Rattle.rules.specs.Marks.{roleWithin, kindWithin, markWithin, markCode}
-use Rattle.rules.specs.Pairs.{numberOf, hasPair}
-use Rattle.rules.specs.RuleSet.{RuleSet, Proper}
+use Rattle.rules.specs.Pairs.{numberOf}
 use Rattle.rules.specs.Steps.{ofKind, requiresPair, needsHidden, landsHidden, liftsRole, entryOf}
 use Rattle.rules.specs.Tables.{means}
 use Rattle.rules.specs.declared.pair.Pair.{Pair}
@@ -34,7 +32,6 @@ use Rattle.rules.proofs.Coded.{code-role, even-role, odd-role, small-mark, lar
 use Rattle.rules.proofs.Kept.{table-proper}
 use Rattle.rules.proofs.Numbered.{number-at, number-in}
 use Rattle.rules.proofs.RoleRows.{or-none}
-use Rattle.rules.proofs.Stepped.{nth-below}
 
 -- the marks of the codes of roles, on either side
 module _ (k : ℕ) (l : 64 ≤ k) where

@@ -1,14 +1,14 @@
 -- The edges of the graph of roles, as the parts of a rule table have them.
 use mathlib.Core.Path.{_≡_, refl, sym, ap, _∙_}
-use mathlib.Core.Bool.{Bool, true, false, cond, _&&_, _||_}
+use mathlib.Core.Bool.{Bool, true, false, _&&_, _||_}
 use mathlib.Core.List.{List, []}
 use mathlib.Core.Logic.{⊎-elim}
-use Prim.Native.Nat.{ℕ, _-_, _*_, _/_, _%_, _<_, _≤_}
+use Prim.Native.Nat.{ℕ, _-_, _/_, _%_, _<_, _≤_}
 use native.Mathlib.Omega.{arith}
 use lib.Dec.{eqb, ltb, leb}
-use lib.ListN.{length, getD, set}
-use Rattle.std.proofs.shelf.Lists.{getD-set-same, getD-set-other, getD-past}
-use Rattle.std.proofs.shelf.Tests.{cases-eq, cases-lt, lt-ltb, le-ltb, lt-leb, le-leb, eq-eqb, ne-eqb, and-left, or-right}
+use lib.ListN.{getD}
+use Rattle.std.proofs.shelf.Lists.{getD-past}
+use Rattle.std.proofs.shelf.Tests.{cases-lt, lt-ltb, le-ltb, lt-leb, le-leb, eq-eqb, ne-eqb, and-left}
 use Rattle.std.specs.shelf.Maps.{nth}
 use Rattle.std.specs.declared.option.Option.{Option}
 use Rattle.std.specs.declared.option.Option.the-variants.{Some, None}
@@ -18,13 +18,13 @@ use Rattle.league.specs.declared.roles.Role.the-variants.{Forward, Backward}
 use Rattle.league.specs.declared.rules.Rule.the-variants.{RoleInclusion}
 use Rattle.rules.specs.Codes.{roleOf, onSide}
 use Rattle.rules.specs.Flags.{flag}
-use Rattle.rules.specs.Marks.{sameRole, roleWithin, RoleIn}
-use Rattle.rules.specs.RuleSet.{RuleSet, Proper}
+use Rattle.rules.specs.Marks.{sameRole}
+use Rattle.rules.specs.RuleSet.{RuleSet}
 use Rattle.rules.specs.Steps.{ofRole, hiddenUnder, roleStep}
 use Rattle.rules.specs.Tables.{means}
 use Rattle.rules.specs.declared.pair.Pair.{Pair}
 use Rattle.rules.specs.declared.table.RuleTable.{RuleTable}
-use Rattle.rules.proofs.Coded.{code-role, even-role, odd-role, link-below, role-within-code, same-role-code, code-below}
+use Rattle.rules.proofs.Coded.{code-role, even-role, odd-role, link-below, role-within-code, same-role-code}
 use Rattle.rules.proofs.Marked.{same-turned}
 
 -- a row that begins at the first node

@@ -7,10 +7,11 @@ use Prim.Native.Nat.{ℕ, zero, suc, _+_, _-_, _<_, _≤_}
 use native.Mathlib.Omega.{arith}
 use lib.Dec.{T, leb}
 use lib.ListN.{length}
-use Rattle.std.proofs.shelf.Tests.{and-parts, and-from, leb-true, le-leb}
+use Rattle.std.proofs.shelf.Tests.{leb-true, le-leb}
 use Rattle.std.specs.shelf.Maps.{nth}
 use Rattle.std.specs.declared.option.Option.{Option}
 use Rattle.std.specs.declared.option.Option.the-variants.{Some, None}
+use Rattle.graph.proofs.Reaching.{or-in, in-left, in-right}
 use Rattle.graph.proofs.Stars.{star-ends}
 use Rattle.league.specs.Roles.{inverse, linkOf}
 use Rattle.league.specs.declared.facts.Kind.{Kind}
@@ -21,25 +22,14 @@ use Rattle.league.specs.declared.roles.Mark.{Mark}
 use Rattle.league.specs.declared.roles.Mark.the-variants.{Is, Has}
 use Rattle.league.specs.declared.rules.Rule.the-variants.{Inclusion, Required, RoleInclusion}
 use Rattle.rules.specs.Follows.{hidden, Hides, RoleEdge, under, under⁻, hides, hides⁻, Below, MarkEdge, includes, needs, lands, lifts}
-use Rattle.rules.specs.Marks.{RoleIn, MarkIn}
+use Rattle.rules.specs.Marks.{MarkIn}
 use Rattle.rules.specs.Pairs.{pairOf}
 use Rattle.rules.specs.RuleSet.{RuleSet, Proper}
 use Rattle.rules.specs.Steps.{ofRole, ofKind, hiddenUnder, roleGives, requiresPair, needsHidden, landsHidden, liftsRole, markGives}
 use Rattle.rules.specs.declared.pair.Pair.{Pair}
 use Rattle.rules.proofs.Marked.{T-true, true-T, kind-self, kind-eq, role-self, role-eq, turn-turn}
 
-or-in : (x y : Bool) → T (x || y) → T x ⊎ T y
-or-in true y t = inl tt
-or-in false y t = inr t
-
-in-left : (x y : Bool) → T x → T (x || y)
-in-left true y t = tt
-in-left false y t = absurd t
-
-in-right : (x y : Bool) → T y → T (x || y)
-in-right true y t = tt
-in-right false y t = t
-
+-- both of two tests
 in-both : (x y : Bool) → T (x && y) → T x × T y
 in-both true y t = (tt, t)
 in-both false y t = absurd t

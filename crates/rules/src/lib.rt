@@ -2,6 +2,7 @@
 pub mod consequences;
 pub mod entries;
 mod flags;
+pub mod following;
 mod mark_graph;
 mod numbering;
 pub mod pair;

@@ -15,6 +15,7 @@ use graph::rows::add_row;
 use graph::table::NodeTable;
 
 /// The rules, and the table of the roles that are below one another.
+#[derive(Clone, Copy)]
 pub struct MarkGraph<'a> {
     pub table: &'a RuleTable,
     pub below: &'a NodeTable<128>,
@@ -73,7 +74,7 @@ fn add_lifted(below: &NodeTable<128>, node: usize, set: &mut [bool])
     add_row(&below.row(node - 64), 64, set);
 }
 
-impl<'a> Graph for MarkGraph<'a> as MarkGraphEdges {
+pub impl<'a> Graph for MarkGraph<'a> as MarkGraphEdges {
     ghost edge = { λ g i j. markStep (means (held (g .table))) (entryOf (held (g .below) .rows)) i j };
 
     fn add_successors(&self, node: usize, set: &mut [bool]) {

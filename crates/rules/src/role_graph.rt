@@ -38,7 +38,7 @@ fn add_pair_role(table: &RuleTable, node: usize, set: &mut [bool])
     add_node(on_side(pair.role, node).code() as usize, set);
 }
 
-impl Graph for RuleTable as RoleGraph {
+pub impl Graph for RuleTable as RoleGraph {
     ghost edge = { λ t i j. roleStep (means t) i j };
 
     fn add_successors(&self, node: usize, set: &mut [bool]) {

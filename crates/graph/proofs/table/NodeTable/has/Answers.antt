@@ -1,7 +1,4 @@
-use borrow.Author.Needs.{needs}
-use mathlib.Core.Path.{_≡_}
 use native.Mathlib.Omega.{arith}
-use lib.ListN.{length}
 use Rattle.graph.proofs.Tabled.{no-row, no-column}
 use Rattle.graph.proofs.table.NodeTable.has.Needs as need
 
