@@ -30,8 +30,7 @@ impl Graph for RoleGraph<'_> as GeneratesGraph {
 
     fn add_successors(&self, node: usize, set: &mut [bool]) {
         for code in 0..set.len() {
-            let found = set[code] || has_edge(self.consequences, node, code);
-            set[code] = found;
+            set[code] |= has_edge(self.consequences, node, code);
         }
     }
 }
