@@ -17,7 +17,7 @@ use Rattle.model.proofs.Completion.{tabled-completes}
 use Rattle.model.proofs.Rightness.{tables-right}
 
 module _ (h : Holding) (sound : Sound h) (table : RuleTable) (t : CanonicalTables) (c : Consequences)
-         (same : t .consequences .now ≡ c) (decides : Decides c (means table)) (made : TablesOf h t) where
+    (same : t .consequences .now ≡ c) (decides : Decides c (means table)) (made : TablesOf h t) where
   pub built-few : t .names ≤ 1024
   built-few = omega (arith, sound .few, made .namesAre)
 

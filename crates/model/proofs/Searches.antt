@@ -108,22 +108,22 @@ or-none false = refl
 
 pub spread-none : (old : List Bool) (q : ℕ → Bool) → Spread old old 0 q
 spread-none old q = record {
-    long = refl;
-    flags = λ k l. or-none (getD old k false) ∙ sym (ap (λ t. getD old k false || (t && q k)) (le-ltb k 0 (omega arith)));
-  }
+  long = refl;
+  flags = λ k l. or-none (getD old k false) ∙ sym (ap (λ t. getD old k false || (t && q k)) (le-ltb k 0 (omega arith)));
+}
 
 pub spread-more : (old now : List Bool) (n : ℕ) (q : ℕ → Bool) (b : Bool) → Spread old now n q → n < length old → b ≡ (getD now n false || q n) → Spread old (set now n b) (n + 1) q
 spread-more old now n q b s l e = record {
-    long = length-set now n b ∙ s .long;
-    flags = λ k h. ⊎-elim
+  long = length-set now n b ∙ s .long;
+  flags = λ k h. ⊎-elim
       (λ same. ap (λ i. getD (set now n b) i false) same ∙ (getD-set-same now n b false (omega (arith, s .long)) ∙ (e ∙ (own ∙ ap (λ i. getD old i false || (ltb i (n + 1) && q i)) (sym same)))))
       (λ other. getD-set-other now n k b false other ∙ (s .flags k h ∙ ap (λ t. getD old k false || (t && q k)) (next k other)))
       (cases-eq k n);
-  }
+}
   where
     own : (getD now n false || q n) ≡ (getD old n false || (ltb n (n + 1) && q n))
     own = ap (λ t. t || q n) (s .flags n l ∙ (ap (λ t. getD old n false || (t && q n)) (le-ltb n n (omega arith)) ∙ sym (or-none (getD old n false))))
-      ∙ sym (ap (λ t. getD old n false || (t && q n)) (lt-ltb n (n + 1) (omega arith)))
+        ∙ sym (ap (λ t. getD old n false || (t && q n)) (lt-ltb n (n + 1) (omega arith)))
 
     next : (k : ℕ) → (k ≡ n → ⊥) → ltb k n ≡ ltb k (n + 1)
     next k u = ⊎-elim (λ h. lt-ltb k n h ∙ sym (lt-ltb k (n + 1) (omega arith))) (λ h. le-ltb k n h ∙ sym (le-ltb k (n + 1) (omega arith))) (cases-lt k n)

@@ -35,7 +35,11 @@ fn tables_of<'a, S: Store>(store: &S, consequences: &'a Consequences) -> Canonic
 impl<'a, S: Store> CanonicalModel<'a, S> {
     /// The canonical model of a store's facts and of a rule table's consequences. It is there whether or not the
     /// facts and rules contradict one another.
-    pub fn new(store: &'a S, rules: &'a RuleTable, consequences: &'a Consequences) -> CanonicalModel<'a, S>
+    pub fn new(
+        store: &'a S,
+        rules: &'a RuleTable,
+        consequences: &'a Consequences,
+    ) -> CanonicalModel<'a, S>
         requires { ⌜ Decides (now consequences) (rulesOf (now rules)) ⌝ }
         ensures store { λ r. ⌜ now (r .store) ≡ now (store .entry) ⌝ }
         ensures rules { λ r. ⌜ now (r .rules) ≡ now (rules .entry) ⌝ }

@@ -44,13 +44,13 @@ impl CanonicalTables<'_> {
         requires { ⌜ index < 3 ⌝ }
         ensures { λ r. ⌜ r ≡ indexAfter (tabled (now (self .entry))) from index to ⌝ }
     {
-        if self.is_in_loop(to) {
-            if self.turns(from, to) {
-                return (index + 1) % 3;
-            }
-            return index;
+        if !self.is_in_loop(to) {
+            return 0;
         }
-        0
+        if self.turns(from, to) {
+            return (index + 1) % 3;
+        }
+        index
     }
 
     /// The role of a witness.

@@ -7,7 +7,6 @@ mod canonical_tables;
 mod codes;
 mod elements;
 mod generating;
-pub mod laws;
 mod look_up;
 pub mod model;
 mod name_rows;

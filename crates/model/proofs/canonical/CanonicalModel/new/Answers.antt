@@ -6,9 +6,10 @@ pub ghost-result : need.ghost-result
 ghost-result g c =
     let store = c .args .store .now in
     let h = g .S·Store .means store in
-    let e = c .tables-of-tables .ensures in
-    (built-few h (g .S·Store .sound store) (c .args .rules .now) (c .tables-of-tables .result) (c .args .consequences .now) (e .same) (c .pre) (e .made),
-     (∣ built-right h (g .S·Store .sound store) (c .args .rules .now) (c .tables-of-tables .result) (c .args .consequences .now) (e .same) (c .pre) (e .made) ∣₁, tt))
+    let e = c .tables-of-tables .ensures in (
+      built-few h (g .S·Store .sound store) (c .args .rules .now) (c .tables-of-tables .result) (c .args .consequences .now) (e .same) (c .pre) (e .made),
+      (∣ built-right h (g .S·Store .sound store) (c .args .rules .now) (c .tables-of-tables .result) (c .args .consequences .now) (e .same) (c .pre) (e .made) ∣₁, tt),
+    )
 
 pub returns : need.returns
 returns g c =
