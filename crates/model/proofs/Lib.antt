@@ -1,5 +1,6 @@
 pub mod Built
 pub mod CanonicalLaws
+pub mod ClashTests
 pub mod Completion
 pub mod Least
 pub mod Numbers

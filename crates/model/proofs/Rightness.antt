@@ -67,7 +67,7 @@ ranged (Is k) h = ltb→lt (k .0) 64 h
 ranged (Has (Forward l)) h = let p = ltb→lt (l .0) 64 h in omega arith
 ranged (Has (Backward l)) h = let p = ltb→lt (l .0) 64 h in omega arith
 
-mark-back : (C : Mark) → MarkRange C → markOf (markCode C) ≡ C
+pub mark-back : (C : Mark) → MarkRange C → markOf (markCode C) ≡ C
 mark-back (Is k) h = small-mark (k .0) h
 mark-back (Has R) h = large-mark (64 + code R) (omega arith) ∙ (ap (λ n. Has (roleOf n)) (omega arith) ∙ ap {B = Mark} Has (role-of-code R))
 

@@ -1,4 +1,5 @@
 pub mod Canonical
+pub mod Clashes
 pub mod Elements
 pub mod Given
 pub mod LookedUp

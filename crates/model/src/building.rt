@@ -1,8 +1,11 @@
 //! Building the canonical model of a store's facts and of rules.
+ghost use mathlib.Core.Logic.{_↔_};
 ghost use mathlib.Core.Path.{_≡_};
+ghost use lib.Dec.{T};
 ghost use Rattle.rules.specs.Consequences.{Decides};
 ghost use Rattle.rules.specs.Tables.{means as rulesOf};
-ghost use Rattle.model.specs.Canonical.{Completes};
+ghost use Rattle.model.specs.Canonical.{Clash, Completes};
+ghost use Rattle.model.specs.Clashes.{clashTest};
 ghost use Rattle.model.specs.LookedUp.{tabled, TablesOf};
 ghost use Rattle.model.specs.Tabled.{tabledShape, tabledForm};
 use crate::canonical::CanonicalModel;
@@ -44,6 +47,7 @@ impl<'a, S: Store> CanonicalModel<'a, S> {
         ensures store { λ r. ⌜ now (r .store) ≡ now (store .entry) ⌝ }
         ensures rules { λ r. ⌜ now (r .rules) ≡ now (rules .entry) ⌝ }
         ensures whole { λ r. ⌜ Completes (S·Store .means (now (store .entry)) .names) (S·Store .means (now (store .entry)) .facts) (rulesOf (now (rules .entry))) (tabledShape (tabled (r .tables)) (S·Store .means (now (store .entry)) .facts)) (tabledForm (tabled (r .tables))) ⌝ }
+        ensures clash { λ r. ⌜ T (clashTest (tabled (r .tables)) (rulesOf (now (rules .entry)) .rules)) ↔ Clash (S·Store .means (now (store .entry)) .names) (S·Store .means (now (store .entry)) .facts) (rulesOf (now (rules .entry))) ⌝ }
     {
         let tables = tables_of(store, consequences);
         CanonicalModel {

@@ -13,7 +13,7 @@ use league::roles::Role;
 
 impl CanonicalTables<'_> {
     /// Whether the role is generating.
-    fn is_generating(&self, role: Role) -> bool
+    pub fn is_generating(&self, role: Role) -> bool
         ensures { λ r. ⌜ r ≡ tabled (now (self .entry)) .generating role ⌝ }
     {
         let code = role.code() as usize;
@@ -135,7 +135,7 @@ impl CanonicalTables<'_> {
     }
 
     /// Whether a name has the kind.
-    fn name_is(&self, kind: Kind, name: u16) -> bool
+    pub fn name_is(&self, kind: Kind, name: u16) -> bool
         ensures { λ r. ⌜ r ≡ tabled (now (self .entry)) .marks name (Is kind) ⌝ }
     {
         kind.0 < 64 && self.rows.has_mark(name as usize, kind.0 as usize)

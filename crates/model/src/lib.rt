@@ -4,6 +4,7 @@ pub mod building;
 pub mod canonical;
 pub mod canonical_model;
 mod canonical_tables;
+pub mod clash;
 mod codes;
 mod elements;
 mod generating;

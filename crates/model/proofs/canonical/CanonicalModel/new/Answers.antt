@@ -1,5 +1,5 @@
 use mathlib.Core.Path.{refl}
-use Rattle.model.proofs.Built.{built-few, built-right, built-whole}
+use Rattle.model.proofs.Built.{built-few, built-right, built-whole, built-clash}
 use Rattle.model.proofs.canonical.CanonicalModel.new.Needs as need
 
 pub ghost-result : need.ghost-result
@@ -19,4 +19,5 @@ returns g c =
       store = refl;
       rules = refl;
       whole = built-whole (g .S·Store .means store) (g .S·Store .sound store) (c .args .rules .now) (c .tables-of-tables .result) (c .args .consequences .now) (e .same) (c .pre) (e .made);
+      clash = built-clash (g .S·Store .means store) (g .S·Store .sound store) (c .args .rules .now) (c .tables-of-tables .result) (c .args .consequences .now) (e .same) (c .pre) (e .made);
     }
