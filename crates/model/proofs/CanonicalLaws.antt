@@ -13,12 +13,13 @@ use Rattle.league.specs.declared.roles.Role.{Role}
 use Rattle.league.specs.declared.roles.Role.the-variants.{Forward, Backward}
 use Rattle.graph.specs.Paths.{Star}
 use Rattle.rules.specs.RuleSet.{RuleSet, Proper}
+use Rattle.rules.proofs.Coded.{code-role}
 use Rattle.rules.proofs.Marked.{turn-turn}
 use Rattle.model.specs.Canonical.{Present, Steps, By, Joined, NamesJoined, Decided, Completes, CanonicalLawful}
-use Rattle.model.specs.Elements.{Element, elementOf, number, roleOf}
+use Rattle.model.specs.Elements.{Element, elementOf, number}
 use Rattle.model.specs.Recorded.{FactsIn, Recorded, nameOf}
 use Rattle.model.specs.Structures.{Shape, Form, Lawful, StepsBy, BothNames, Reaches}
-use Rattle.model.proofs.Numbers.{element-name, element-far, element-number, number-element, code-role}
+use Rattle.model.proofs.Numbers.{element-name, element-far, element-number, number-element}
 use Rattle.model.proofs.Ranges.{generating-in}
 use Rattle.model.proofs.Roles.{below-inverse}
 use Rattle.model.proofs.Steps.{no-step-back, step-present, witness-reached}

@@ -13,12 +13,14 @@ use Rattle.league.specs.declared.facts.Name.{Name}
 use Rattle.league.specs.declared.roles.Mark.the-variants.{Is, Has}
 use Rattle.league.specs.declared.roles.Role.{Role}
 use Rattle.rules.specs.RuleSet.{RuleSet, Proper}
+use Rattle.rules.specs.Codes.{roleOf}
+use Rattle.rules.proofs.Coded.{role-of-code}
 use Rattle.rules.proofs.Marked.{T-true, true-T}
 use Rattle.model.specs.Canonical.{Present, Steps, By, HasMark, Joined, NamesJoined, RoleGenerates, Turns, Index, InLoop, Decided, Completes}
-use Rattle.model.specs.Elements.{Element, elementOf, roleOf}
+use Rattle.model.specs.Elements.{Element, elementOf}
 use Rattle.model.specs.Recorded.{FactsIn, Recorded, nameOf, factOf}
 use Rattle.model.specs.Tabled.{Tabled, Right, RoleRange, isName, roleAt, indexAt, witnessAt, presentAt, generates, turns, indexAfter, nameSteps, witnessSteps, stepAt, byAt, kindAt, namesAt, joinsAt, tabledShape, tabledForm}
-use Rattle.model.proofs.Numbers.{element-name, element-far, role-of-code}
+use Rattle.model.proofs.Numbers.{element-name, element-far}
 use Rattle.model.proofs.Ranges.{generating-in, in-inverse, recorded-small}
 use Rattle.model.proofs.Roles.{code-same}
 use Rattle.model.proofs.Searches.{some-found, some-at}

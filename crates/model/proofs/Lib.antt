@@ -1,9 +1,15 @@
+pub mod Built
 pub mod CanonicalLaws
+pub mod ClashTests
 pub mod Completion
+pub mod Least
 pub mod Numbers
 pub mod PlainLaws
 pub mod Ranges
+pub mod Rightness
 pub mod Roles
 pub mod Searches
 pub mod Steps
+pub mod TableRows
+pub mod TabledLaws
 pub mod Tests

@@ -1,36 +1,19 @@
 -- Elements by number.
 use mathlib.Core.Path.{_≡_, refl, sym, ap, ap₂, subst, _∙_}
 use mathlib.Core.Bool.{Bool, true, false, cond}
-use mathlib.Core.Logic.{_≢_}
 use Prim.Native.Nat.{ℕ, _+_, _-_, _*_, _/_, _%_, _<_, _≤_}
 use native.Mathlib.Omega.{arith}
 use native.Mathlib.Decide.{decLt}
-use lib.Dec.{T, ltb, eqb, lt→ltb, ltb→lt, eqb→eq}
+use lib.Dec.{ltb, lt→ltb, ltb→lt}
 use Rattle.league.specs.Roles.{code}
 use Rattle.league.specs.declared.facts.Name.{Name}
 use Rattle.league.specs.declared.roles.Role.{Role}
-use Rattle.league.specs.declared.roles.Role.the-variants.{Forward, Backward}
-use Rattle.model.specs.Elements.{Element, sided, roleOf, number, elementOf}
+use Rattle.model.specs.Elements.{Element, number, elementOf}
 use Rattle.model.specs.Recorded.{nameOf}
+use Rattle.rules.specs.Codes.{roleOf}
+use Rattle.rules.proofs.Coded.{code-role, role-of-code}
 use Rattle.rules.proofs.Marked.{T-true}
 use Rattle.model.proofs.Tests.{is-false}
-
-pub role-of-code : (R : Role) → roleOf (code R) ≡ R
-role-of-code (Forward l) =
-    let a : (2 * l .0) % 2 ≡ 0 = omega arith in
-    let b : (2 * l .0) / 2 ≡ l .0 = omega arith in
-    λ i. sided (eqb (a i) 0) (record { 0 = b i })
-role-of-code (Backward l) =
-    let a : (2 * l .0 + 1) % 2 ≡ 1 = omega arith in
-    let b : (2 * l .0 + 1) / 2 ≡ l .0 = omega arith in
-    λ i. sided (eqb (a i) 0) (record { 0 = b i })
-
-pub code-role : (c : ℕ) → code (roleOf c) ≡ c
-code-role c = go (eqb (c % 2) 0) refl
-  where
-    go : (b : Bool) → eqb (c % 2) 0 ≡ b → code (sided b (record { 0 = c / 2 })) ≡ c
-    go true e = omega (arith, eqb→eq (c % 2) 0 (subst T (sym e) tt))
-    go false e = let n : c % 2 ≢ 0 = λ q. subst T (sym (ap (λ r. eqb r 0) q) ∙ e) tt in omega arith
 
 -- the element with a number below P is the name
 pub element-name : (P : ℕ) (a : Name) → a .0 < P → elementOf P (a .0) ≡ Element.named a

@@ -25,12 +25,12 @@ use Rattle.rules.specs.Marks.{KindIn, RoleIn, MarkIn}
 use Rattle.rules.specs.Pairs.{pairOf}
 use Rattle.rules.specs.RuleSet.{RuleSet, Proper}
 use Rattle.rules.specs.declared.pair.Pair.{Pair}
+use Rattle.rules.proofs.Coded.{code-role, role-of-code}
 use Rattle.rules.proofs.Marked.{turn-turn, T-true, true-T}
 use Rattle.model.specs.Canonical.{Generating, Loop, InLoop, Decided}
-use Rattle.model.specs.Elements.{roleOf}
+use Rattle.rules.specs.Codes.{roleOf}
 use Rattle.model.specs.Recorded.{FactsIn, Given, Recorded, NameHas}
 use Rattle.model.specs.Tabled.{RoleRange, MarkRange}
-use Rattle.model.proofs.Numbers.{role-of-code, code-role}
 use Rattle.model.proofs.Roles.{same-role}
 use Rattle.model.proofs.Tests.{and-both}
 

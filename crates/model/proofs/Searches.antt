@@ -1,7 +1,7 @@
 -- Searches below a number, and rows that are filled from the left.
 use mathlib.Core.Path.{_≡_, refl, sym, ap, subst, _∙_}
 use mathlib.Core.Bool.{Bool, true, false, _&&_, _||_}
-use mathlib.Core.List.{List}
+use mathlib.Core.List.{List, []}
 use mathlib.Core.Logic.{inl, inr, ⊎-elim}
 use Prim.Native.Nat.{ℕ, zero, suc, _+_, _<_, _≤_}
 use native.Mathlib.Omega.{arith}
@@ -83,3 +83,50 @@ some-else n q b h e f = some-next n q ∙ (λ i. h i || (sym e ∙ f) i)
 -- nor at the end
 pub some-end : (n k : ℕ) (q : ℕ → Bool) → someBelow k q ≡ false → k ≤ n → n ≤ k → false ≡ someBelow n q
 some-end n k q h l m = sym h ∙ ap (λ j. someBelow j q) (omega arith)
+
+-- searches for tests that agree
+pub some-same : (n : ℕ) (p q : ℕ → Bool) → ((c : ℕ) → c < n → p c ≡ q c) → someBelow n p ≡ someBelow n q
+unfolding someBelow
+some-same zero p q e = refl
+some-same (suc n) p q e = λ i. some-same n p q (λ c l. e c (omega arith)) i || e n (omega arith) i
+
+-- a table with one row more
+pub row-own : (height : ℕ) (rows : List (List Bool)) (n i : ℕ) (row : List Bool) → length rows ≡ height → n < height → i ≡ n → row ≡ getD (set rows n row) i []
+row-own height rows n i row tall l e = sym (ap (λ k. getD (set rows n row) k []) e ∙ getD-set-same rows n row [] (omega arith))
+
+pub row-other : (rows : List (List Bool)) (n i : ℕ) (row : List Bool) → (i ≡ n → ⊥) → getD rows i [] ≡ getD (set rows n row) i []
+row-other rows n i row u = sym (getD-set-other rows n i row [] u)
+
+-- a set to which a test's numbers below n have been added
+pub record Spread (old now : List Bool) (n : ℕ) (q : ℕ → Bool) : Type 0 where
+  pub long : length now ≡ length old
+  pub flags : (k : ℕ) → k < length old → getD now k false ≡ (getD old k false || (ltb k n && q k))
+
+or-none : (b : Bool) → b ≡ (b || false)
+or-none true = refl
+or-none false = refl
+
+pub spread-none : (old : List Bool) (q : ℕ → Bool) → Spread old old 0 q
+spread-none old q = record {
+  long = refl;
+  flags = λ k l. or-none (getD old k false) ∙ sym (ap (λ t. getD old k false || (t && q k)) (le-ltb k 0 (omega arith)));
+}
+
+pub spread-more : (old now : List Bool) (n : ℕ) (q : ℕ → Bool) (b : Bool) → Spread old now n q → n < length old → b ≡ (getD now n false || q n) → Spread old (set now n b) (n + 1) q
+spread-more old now n q b s l e = record {
+  long = length-set now n b ∙ s .long;
+  flags = λ k h. ⊎-elim
+      (λ same. ap (λ i. getD (set now n b) i false) same ∙ (getD-set-same now n b false (omega (arith, s .long)) ∙ (e ∙ (own ∙ ap (λ i. getD old i false || (ltb i (n + 1) && q i)) (sym same)))))
+      (λ other. getD-set-other now n k b false other ∙ (s .flags k h ∙ ap (λ t. getD old k false || (t && q k)) (next k other)))
+      (cases-eq k n);
+}
+  where
+    own : (getD now n false || q n) ≡ (getD old n false || (ltb n (n + 1) && q n))
+    own = ap (λ t. t || q n) (s .flags n l ∙ (ap (λ t. getD old n false || (t && q n)) (le-ltb n n (omega arith)) ∙ sym (or-none (getD old n false))))
+        ∙ sym (ap (λ t. getD old n false || (t && q n)) (lt-ltb n (n + 1) (omega arith)))
+
+    next : (k : ℕ) → (k ≡ n → ⊥) → ltb k n ≡ ltb k (n + 1)
+    next k u = ⊎-elim (λ h. lt-ltb k n h ∙ sym (lt-ltb k (n + 1) (omega arith))) (λ h. le-ltb k n h ∙ sym (le-ltb k (n + 1) (omega arith))) (cases-lt k n)
+
+pub spread-end : (old now : List Bool) (n : ℕ) (q : ℕ → Bool) → Spread old now n q → length old ≤ n → (k : ℕ) → k < length old → getD now k false ≡ (getD old k false || q k)
+spread-end old now n q s l k h = s .flags k h ∙ ap (λ t. getD old k false || (t && q k)) (lt-ltb k n (omega arith))

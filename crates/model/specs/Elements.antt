@@ -1,12 +1,11 @@
 -- The elements of the canonical model, and their numbers.
-use mathlib.Core.Bool.{Bool, true, false, cond}
+use mathlib.Core.Bool.{cond}
 use Prim.Native.Nat.{ℕ, _+_, _-_, _*_, _/_, _%_}
-use lib.Dec.{ltb, eqb}
+use lib.Dec.{ltb}
 use Rattle.league.specs.Roles.{code}
-use Rattle.league.specs.declared.facts.Link.{Link}
 use Rattle.league.specs.declared.facts.Name.{Name}
 use Rattle.league.specs.declared.roles.Role.{Role}
-use Rattle.league.specs.declared.roles.Role.the-variants.{Forward, Backward}
+use Rattle.rules.specs.Codes.{roleOf}
 use Rattle.model.specs.Recorded.{nameOf}
 
 -- a name, or a witness of a role: something that the role leads to though nobody named it; a role has
@@ -14,15 +13,6 @@ use Rattle.model.specs.Recorded.{nameOf}
 pub data Element : Type 0 where
   named : Name → Element
   witness : Role → ℕ → Element
-
--- the link read from one of its sides: forward where the test is true
-abbrev pub sided : Bool → Link → Role
-sided true l = Forward l
-sided false l = Backward l
-
--- the role with a code
-abbrev pub roleOf : ℕ → Role
-roleOf c = sided (eqb (c % 2) 0) (record { 0 = c / 2 })
 
 -- where there are P names: a name is the element of its own number, and the witness of R with the index i
 -- has the number P + 3 · code of R + i

@@ -1,8 +1,11 @@
 pub mod Canonical
+pub mod Clashes
 pub mod Elements
 pub mod Given
+pub mod LookedUp
 pub mod Plain
 pub mod Recorded
+pub mod RoleTests
 pub mod Rows
 pub mod Structures
 pub mod Tabled

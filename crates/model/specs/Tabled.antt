@@ -11,11 +11,11 @@ use Rattle.league.specs.declared.facts.Kind.{Kind}
 use Rattle.league.specs.declared.roles.Mark.{Mark}
 use Rattle.league.specs.declared.roles.Mark.the-variants.{Is, Has}
 use Rattle.league.specs.declared.roles.Role.{Role}
+use Rattle.rules.specs.Codes.{roleOf}
 use Rattle.rules.specs.Follows.{Below, Implies}
-use Rattle.rules.specs.RuleSet.{RuleSet}
+use Rattle.rules.specs.RuleSet.{RuleSet, Proper}
 use Rattle.model.specs.Canonical.{Loop, InLoop, NameGenerates, Generating}
-use Rattle.model.specs.Elements.{roleOf}
-use Rattle.model.specs.Recorded.{NameHas, nameOf, factOf}
+use Rattle.model.specs.Recorded.{FactsIn, NameHas, nameOf, factOf}
 use Rattle.model.specs.Rows.{someBelow}
 use Rattle.model.specs.Structures.{Shape, Form}
 
@@ -49,6 +49,14 @@ pub record Right (facts : Fact → Bool) (rules : RuleSet) (t : Tabled) : Type 0
   pub generatingIs : (R : Role) → T (t .generating R) ↔ Generating (t .names) facts rules R
   pub loopsAre : (R S : Role) → T (t .loops R S) ↔ Loop rules R S
   pub inLoopIs : (R : Role) → T (t .inLoop R) ↔ InLoop rules R
+
+-- the tables are right for some facts in range and some rules that a table can hold
+pub record Consistent (t : Tabled) : Type 0 where
+  pub facts : Fact → Bool
+  pub rules : RuleSet
+  pub inside : FactsIn (t .names) facts
+  pub proper : Proper rules
+  pub right : Right facts rules t
 
 module _ (t : Tabled) where
   -- the element is a name
@@ -104,9 +112,13 @@ module _ (t : Tabled) where
   abbrev pub kindAt : Kind → ℕ → Bool
   kindAt k d = cond (isName d) (t .marks d (Is k)) (witnessAt d && t .implies (Has (inverse (roleAt d))) (Is k))
 
+  -- a link fact joins the names by the role with a code, and that is below R
+  abbrev pub nameFact : (Fact → Bool) → Role → ℕ → ℕ → ℕ → Bool
+  nameFact facts R a b c = t .below (roleOf c) R && facts (factOf (roleOf c) (nameOf a) (nameOf b))
+
   -- a link fact joins the names by a role below R; facts have links below 32, whose roles have the codes below 64
   abbrev pub namesAt : (Fact → Bool) → Role → ℕ → ℕ → Bool
-  namesAt facts R a b = someBelow 64 (λ c. t .below (roleOf c) R && facts (factOf (roleOf c) (nameOf a) (nameOf b)))
+  namesAt facts R a b = someBelow 64 (nameFact facts R a b)
 
   -- R joins d to e
   abbrev pub joinsAt : (Fact → Bool) → Role → ℕ → ℕ → Bool

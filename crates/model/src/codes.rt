@@ -1,7 +1,6 @@
 //! Roles and marks by their codes.
 ghost use mathlib.Core.Path.{_≡_};
-ghost use Rattle.model.specs.Elements.{roleOf};
-ghost use Rattle.model.specs.Given.{markOf};
+ghost use Rattle.rules.specs.Codes.{roleOf, markOf};
 use league::facts::Kind;
 use league::facts::Link;
 use league::roles::Mark;

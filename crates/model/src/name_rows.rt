@@ -1,11 +1,14 @@
 //! The marks of one name, and the roles that it generates, as rows of flags.
 ghost use mathlib.Core.Path.{_≡_};
 ghost use Prim.Native.Nat.{_<_};
-ghost use Rattle.model.specs.Given.{givenAt, startsAt};
+ghost use Rattle.model.specs.Given.{givenAt, startsAt, passesOn, impliedBy};
 ghost use Rattle.model.specs.Rows.{Filled};
+ghost use Rattle.rules.specs.Codes.{markOf};
 use crate::codes::mark_of;
 use crate::recorded::is_given;
 use league::facts::Name;
+use league::roles::Mark;
+use rules::consequences::Consequences;
 use store::contract::Store;
 
 /// The marks that recorded facts give a name.
@@ -15,6 +18,37 @@ pub fn given_row<S: Store>(store: &S, name: Name) -> [bool; 192]
     let mut row = [false; 192];
     for code in 0..128 {
         row[code as usize] = is_given(store, name, mark_of(code));
+    }
+    row
+}
+
+/// Whether the given mark with a code implies the mark.
+fn passes_on(consequences: &Consequences, given: &[bool; 192], mark: Mark, code: u16) -> bool
+    requires { ⌜ code < 128 ⌝ }
+    ensures { λ r. ⌜ r ≡ passesOn (now (consequences .entry)) (now (given .entry)) mark code ⌝ }
+{
+    given[code as usize] && consequences.implies(mark_of(code), mark)
+}
+
+/// Whether a given mark implies the mark.
+fn is_implied(consequences: &Consequences, given: &[bool; 192], mark: Mark) -> bool
+    ensures { λ r. ⌜ r ≡ impliedBy (now (consequences .entry)) (now (given .entry)) mark ⌝ }
+{
+    for code in 0..128 {
+        if passes_on(consequences, given, mark, code) {
+            return true;
+        }
+    }
+    false
+}
+
+/// The marks that follow from given ones.
+pub fn marks_row(consequences: &Consequences, given: &[bool; 192]) -> [bool; 192]
+    ensures { λ r. ⌜ Filled r 192 (λ c. impliedBy (now (consequences .entry)) (now (given .entry)) (markOf c)) ⌝ }
+{
+    let mut row = [false; 192];
+    for code in 0..192 {
+        row[code as usize] = is_implied(consequences, given, mark_of(code));
     }
     row
 }

@@ -33,11 +33,11 @@ pub impl<'a, S: Store> Structure for PlainModel<'a, S> as PlainStructure {
     }
 
     fn present(&self, element: u16) -> bool {
-        element < self.store.names()
+        element < self.size()
     }
 
     fn nameable(&self) -> u16 {
-        self.store.names()
+        self.size()
     }
 
     fn of_kind(&self, kind: Kind, element: u16) -> bool {
@@ -53,14 +53,14 @@ pub impl<'a, S: Store> Model for PlainModel<'a, S> as PlainSteps {
     ghost form = { λ m. plainForm (S·Store .means (m .store .now)) };
 
     fn names(&self) -> u16 {
-        self.store.names()
+        self.nameable()
     }
 
     fn steps(&self, _from: u16, _to: u16) -> bool {
         false
     }
 
-    fn steps_by(&self, _role: Role, _from: u16, _to: u16) -> bool {
-        false
+    fn steps_by(&self, _role: Role, from: u16, to: u16) -> bool {
+        self.steps(from, to)
     }
 }

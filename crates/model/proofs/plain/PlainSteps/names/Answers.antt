@@ -2,4 +2,4 @@ use Rattle.model.proofs.PlainLaws.{plain-lawful}
 use Rattle.model.proofs.plain.PlainSteps.names.Needs as need
 
 pub returns : need.returns
-returns g c = record { value = c .names .ensures; lawful = plain-lawful _ (g .S·Store .sound _) }
+returns g c = record { value = c .nameable .ensures; lawful = plain-lawful _ (g .S·Store .sound _) }
