@@ -2,6 +2,8 @@ pub mod Agree
 pub mod Answered
 pub mod Bridge
 pub mod Fits
+pub mod Forces
+pub mod Grounds
 pub mod Joining
 pub mod Kept
 pub mod Left
