@@ -22,12 +22,12 @@ flag-parts table i j e =
     in let b = and-parts (ltb j 8) _ (a .1)
     in (ltb-true i 8 (a .0), ltb-true j 8 (b .0), b .1)
 
-flag-made : (table : List Bool) (i j : ℕ) → i < 8 → j < 8 → getD table (8 * i + j) false ≡ true → flagAt table i j ≡ true
+pub flag-made : (table : List Bool) (i j : ℕ) → i < 8 → j < 8 → getD table (8 * i + j) false ≡ true → flagAt table i j ≡ true
 unfolding flagAt
 flag-made table i j h k e = and-from (ltb i 8) _ (lt-ltb i 8 h) (and-from (ltb j 8) _ (lt-ltb j 8 k) e)
 
 -- the pair with a number
-flag-pair : (table : List Bool) (p : ℕ) → p < 64 → getD table p false ≡ true → flagAt table (p / 8) (p % 8) ≡ true
+pub flag-pair : (table : List Bool) (p : ℕ) → p < 64 → getD table p false ≡ true → flagAt table (p / 8) (p % 8) ≡ true
 flag-pair table p h e =
     let q : 8 * (p / 8) + p % 8 ≡ p = omega arith
     in flag-made table (p / 8) (p % 8) (omega arith) (omega arith) (ap (λ n. getD table n false) q ∙ e)

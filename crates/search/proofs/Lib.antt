@@ -1,12 +1,14 @@
 pub mod Agree
 pub mod Answered
 pub mod Bridge
+pub mod Deciding
 pub mod Fits
 pub mod Forces
 pub mod Grounds
 pub mod Joining
 pub mod Kept
 pub mod Left
+pub mod Lifting
 pub mod Listing
 pub mod NamesInOrder
 pub mod Odometer

@@ -3,6 +3,7 @@ pub mod Filtering
 pub mod Finding
 pub mod Forcing
 pub mod Grounding
+pub mod Keeping
 pub mod Matches
 pub mod Searching
 pub mod Stepping
