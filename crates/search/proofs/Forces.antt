@@ -36,7 +36,7 @@ flag-pair table p h e =
 pub fewer-left : (same : List Bool) (p : ℕ) → p < length same → getD same p false ≡ false → countBy not (set same p true) < countBy not same
 fewer-left same p l e =
     let m : countBy not (set same p true) + cond (not (getD same p false)) 1 0 ≡ countBy not same + 0 =
-      sumBy-set (λ x. cond (not x) 1 0) same p true false l
+    sumBy-set (λ x. cond (not x) 1 0) same p true false l
     in let n : cond {A = ℕ} (not (getD same p false)) 1 0 ≡ 1 = rw e refl
     in omega arith
 
@@ -51,15 +51,15 @@ module _ (down : List Bool) where
   flagged-first same l d = record {
     long = l;
     sound = λ i j e.
-      let a = flag-parts same i j e
-      in let q : (8 * i + j) / 8 ≡ i = omega (arith, a .0, a .1)
-      in let r : (8 * i + j) % 8 ≡ j = omega (arith, a .0, a .1)
-      in let s : i ≡ j = omega (arith, q, r, eqb-true ((8 * i + j) / 8) ((8 * i + j) % 8) (sym (d (8 * i + j) (omega (arith, a .0, a .1))) ∙ a .2))
-      in subst (λ k. Forced (flagAt down) i k) s (Forced.self i);
+        let a = flag-parts same i j e
+        in let q : (8 * i + j) / 8 ≡ i = omega (arith, a .0, a .1)
+        in let r : (8 * i + j) % 8 ≡ j = omega (arith, a .0, a .1)
+        in let s : i ≡ j = omega (arith, q, r, eqb-true ((8 * i + j) / 8) ((8 * i + j) % 8) (sym (d (8 * i + j) (omega (arith, a .0, a .1))) ∙ a .2))
+        in subst (λ k. Forced (flagAt down) i k) s (Forced.self i);
     own = λ i h.
-      let q : (8 * i + i) / 8 ≡ i = omega arith
-      in let r : (8 * i + i) % 8 ≡ i = omega arith
-      in flag-made same i i h h (d (8 * i + i) (omega arith) ∙ eq-eqb ((8 * i + i) / 8) ((8 * i + i) % 8) (q ∙ sym r));
+        let q : (8 * i + i) / 8 ≡ i = omega arith
+        in let r : (8 * i + i) % 8 ≡ i = omega arith
+        in flag-made same i i h h (d (8 * i + i) (omega arith) ∙ eq-eqb ((8 * i + i) / 8) ((8 * i + i) % 8) (q ∙ sym r));
   }
 
   forced-now : (same : List Bool) → Flagged same → (i j : ℕ) → ForcedNow (flagAt down) (flagAt same) i j → Forced (flagAt down) i j
@@ -71,13 +71,13 @@ module _ (down : List Bool) where
   flagged-more same p f h now = record {
     long = length-set same p true ∙ f .long;
     sound = λ i j e.
-      let a = flag-parts (set same p true) i j e
-      in ⊎-elim
-      (λ q. let r : p / 8 ≡ i = omega (arith, a .0, a .1)
+        let a = flag-parts (set same p true) i j e
+        in ⊎-elim
+        (λ q. let r : p / 8 ≡ i = omega (arith, a .0, a .1)
         in let m : p % 8 ≡ j = omega (arith, a .0, a .1)
         in subst (λ b. Forced (flagAt down) i b) m (subst (λ b. Forced (flagAt down) b (p % 8)) r (forced-now same f (p / 8) (p % 8) now)))
-      (λ ne. f .sound i j (flag-made same i j (a .0) (a .1) (sym (getD-set-other same p (8 * i + j) true false ne) ∙ a .2)))
-      (cases-eq (8 * i + j) p);
+        (λ ne. f .sound i j (flag-made same i j (a .0) (a .1) (sym (getD-set-other same p (8 * i + j) true false ne) ∙ a .2)))
+        (cases-eq (8 * i + j) p);
     own = λ i l. flag-made (set same p true) i i l l (kept i l);
   }
     where

@@ -34,16 +34,16 @@ module _ (down same : List Bool) where
   raised-more flags p f h free = record {
     long = length-set flags p true ∙ f .long;
     sound = λ i e.
-      ⊎-elim (λ q. subst (Grounded (flagAt down) (flagAt same)) (sym q) here)
-      (λ ne. f .sound i (sym (getD-set-other flags p i true false ne) ∙ e))
-      (cases-eq i p);
+        ⊎-elim (λ q. subst (Grounded (flagAt down) (flagAt same)) (sym q) here)
+        (λ ne. f .sound i (sym (getD-set-other flags p i true false ne) ∙ e))
+        (cases-eq i p);
   }
     where
       here : Grounded (flagAt down) (flagAt same) p
       here = Grounded.ground p (λ v u a b.
-        ⊎-elim (λ e. f .sound u e)
-        (λ e. absurd (free (v, flag-parts same p v a .1, a, (u, flag-parts down u v b .0, b, e))))
-        (cases-bool (getD flags u false)))
+          ⊎-elim (λ e. f .sound u e)
+          (λ e. absurd (free (v, flag-parts same p v a .1, a, (u, flag-parts down u v b .0, b, e))))
+          (cases-bool (getD flags u false)))
 
   module _ (flags : List Bool) (f : Raised flags) (shut : (i : ℕ) → i < 8 → getD flags i false ≡ false → (Waits (flagAt down) (flagAt same) flags i → ⊥) → ⊥) where
     never : {i : ℕ} → Grounded (flagAt down) (flagAt same) i → i < 8 → getD flags i false ≡ false → ⊥

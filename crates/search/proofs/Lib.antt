@@ -15,3 +15,4 @@ pub mod Odometer
 pub mod Rows
 pub mod Standing
 pub mod Steps
+pub mod Verdicts

@@ -12,7 +12,15 @@ use league::roles::Role;
 use model::model::Model;
 
 /// Whether the two terms stand at these places, and the first's element steps by the role to the second's.
-fn steps_along<M: Model>(model: &M, terms: &[Term], cells: &[u16; 8], role: Role, ends: (Term, Term), above: usize, below: usize) -> bool
+fn steps_along<M: Model>(
+    model: &M,
+    terms: &[Term],
+    cells: &[u16; 8],
+    role: Role,
+    ends: (Term, Term),
+    above: usize,
+    below: usize,
+) -> bool
     requires { ⌜ above < 8 ⌝ ∗ ⌜ below < 8 ⌝ }
     ensures { λ r. ⌜ r ≡ stepsAlong (M·Model .form (now (model .entry))) (now (terms .entry)) (now (cells .entry)) role (ends .0) (ends .1) above below ⌝ }
 {
@@ -23,7 +31,14 @@ fn steps_along<M: Model>(model: &M, terms: &[Term], cells: &[u16; 8], role: Role
 }
 
 /// Whether the atom's step goes from one place down to the other.
-fn goes_down<M: Model>(model: &M, terms: &[Term], cells: &[u16; 8], atom: Atom, above: usize, below: usize) -> bool
+fn goes_down<M: Model>(
+    model: &M,
+    terms: &[Term],
+    cells: &[u16; 8],
+    atom: Atom,
+    above: usize,
+    below: usize,
+) -> bool
     requires { ⌜ above < 8 ⌝ ∗ ⌜ below < 8 ⌝ }
     ensures { λ r. ⌜ r ≡ goesDown (M·Model .form (now (model .entry))) (now (terms .entry)) (now (cells .entry)) atom above below ⌝ }
 {
@@ -31,13 +46,28 @@ fn goes_down<M: Model>(model: &M, terms: &[Term], cells: &[u16; 8], atom: Atom, 
         Atom::Is(_, _) => false,
         Atom::Joins(role, from, to) => {
             steps_along(model, terms, cells, role, (from, to), above, below)
-                || steps_along(model, terms, cells, role.inverse(), (to, from), above, below)
+                || steps_along(
+                    model,
+                    terms,
+                    cells,
+                    role.inverse(),
+                    (to, from),
+                    above,
+                    below,
+                )
         }
     }
 }
 
 /// Whether some atom's step goes from one place down to the other.
-fn some_goes_down<M: Model>(model: &M, terms: &[Term], atoms: &[Atom], cells: &[u16; 8], above: usize, below: usize) -> bool
+fn some_goes_down<M: Model>(
+    model: &M,
+    terms: &[Term],
+    atoms: &[Atom],
+    cells: &[u16; 8],
+    above: usize,
+    below: usize,
+) -> bool
     requires { ⌜ above < 8 ⌝ ∗ ⌜ below < 8 ⌝ }
     ensures { λ r. ⌜ Decides r (DownAt (M·Model .form (now (model .entry))) (now (terms .entry)) (now (atoms .entry)) (now (cells .entry)) above below) ⌝ }
 {
@@ -50,7 +80,12 @@ fn some_goes_down<M: Model>(model: &M, terms: &[Term], atoms: &[Atom], cells: &[
 }
 
 /// From which places the atoms' steps go down to which.
-pub(crate) fn down_table<M: Model>(model: &M, terms: &[Term], atoms: &[Atom], cells: &[u16; 8]) -> [bool; 64]
+pub(crate) fn down_table<M: Model>(
+    model: &M,
+    terms: &[Term],
+    atoms: &[Atom],
+    cells: &[u16; 8],
+) -> [bool; 64]
     ensures { λ r. ⌜ ((p : ℕ) → p < 64 → Decides (getD r p false) (DownAt (M·Model .form (now (model .entry))) (now (terms .entry)) (now (atoms .entry)) (now (cells .entry)) (p / 8) (p % 8))) ⌝ }
 {
     let mut table = [false; 64];

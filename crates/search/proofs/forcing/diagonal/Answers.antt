@@ -7,8 +7,9 @@ use lib.Seq.{getD-set-same, getD-set-other}
 use Rattle.search.proofs.forcing.diagonal.Needs as need
 
 pub loop-pair-again : need.loop-pair-again
-loop-pair-again c =
-    (simp length-set (c .loop-pair .inv .0),
-    below-more _ _
-    (λ k h. let ne : k ≢ c .loop-pair .pair = omega arith in rw getD-set-other (c .loop-pair .inv .1 k h))
-    (let lt : c .loop-pair .pair < length (c .loop-pair .same) = omega arith in rw getD-set-same))
+loop-pair-again c = (
+  simp length-set (c .loop-pair .inv .0),
+  below-more _ _
+      (λ k h. let ne : k ≢ c .loop-pair .pair = omega arith in rw getD-set-other (c .loop-pair .inv .1 k h))
+      (let lt : c .loop-pair .pair < length (c .loop-pair .same) = omega arith in rw getD-set-same),
+)
