@@ -1,5 +1,9 @@
 pub mod Cells
 pub mod Filtering
 pub mod Finding
+pub mod Forcing
+pub mod Grounding
+pub mod Keeping
 pub mod Matches
 pub mod Searching
+pub mod Stepping
