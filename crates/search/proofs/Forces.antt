@@ -1,18 +1,18 @@
 -- Flagging what is forced, until nothing more is: the flagged pairs are those that are forced to one path.
-use mathlib.Core.Path.{_≡_, refl, sym, ap, ap₂, subst, _∙_}
-use mathlib.Core.Bool.{Bool, true, false, not, cond, _&&_}
+use mathlib.Core.Path.{_≡_, refl, sym, ap, subst, _∙_}
+use mathlib.Core.Bool.{Bool, true, false, not, cond}
 use mathlib.Core.List.{List}
-use mathlib.Core.Logic.{_⊎_, inl, inr, ⊎-elim, _≢_}
-use Prim.Native.Nat.{ℕ, suc, _+_, _*_, _/_, _%_, _<_, _≤_}
+use mathlib.Core.Logic.{inl, inr, ⊎-elim}
+use Prim.Native.Nat.{ℕ, _+_, _*_, _/_, _%_, _<_}
 use native.Mathlib.Omega.{arith}
-use lib.Dec.{T, ltb, eqb}
+use lib.Dec.{ltb, eqb}
 use lib.ListN.{length, length-set, getD, set}
 use lib.Seq.{getD-set-same, getD-set-other}
 use Rattle.std.specs.shelf.Lists.{countBy}
 use Rattle.std.proofs.shelf.Sums.{sumBy-set}
 use Rattle.std.proofs.shelf.Tests.{and-parts, and-from, lt-ltb, ltb-true, eq-eqb, eqb-true, cases-bool, cases-eq, both-ways}
 use Rattle.model.proofs.Tests.{is-true, holds}
-use Rattle.search.specs.Forcing.{flagAt, Forced, Meets, BelowMeets, SideBySide, ForcedNow, Decides}
+use Rattle.search.specs.Forcing.{flagAt, Forced, ForcedNow, Decides}
 
 -- a flag that is set is at two places below eight
 pub flag-parts : (table : List Bool) (i j : ℕ) → flagAt table i j ≡ true → (i < 8) × (j < 8) × (getD table (8 * i + j) false ≡ true)

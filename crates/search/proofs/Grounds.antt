@@ -1,15 +1,14 @@
 -- Flagging places that wait for none, until there is no other: the flagged places are the grounded ones.
-use mathlib.Core.Path.{_≡_, refl, sym, ap, subst, _∙_}
+use mathlib.Core.Path.{_≡_, refl, sym, subst, _∙_}
 use mathlib.Core.Bool.{Bool, true, false}
 use mathlib.Core.List.{List}
-use mathlib.Core.Logic.{_⊎_, inl, inr, ⊎-elim}
+use mathlib.Core.Logic.{⊎-elim}
 use Prim.Native.Nat.{ℕ, zero, suc, _<_}
-use native.Mathlib.Omega.{arith}
 use lib.ListN.{length, length-set, getD, set, replicate}
-use lib.Seq.{getD-set-same, getD-set-other}
+use lib.Seq.{getD-set-other}
 use Rattle.std.proofs.shelf.Tests.{cases-bool, cases-eq, both-ways}
 use Rattle.search.specs.Forcing.{flagAt, Decides}
-use Rattle.search.specs.Grounding.{OpenAbove, Waits, Grounded}
+use Rattle.search.specs.Grounding.{Waits, Grounded}
 use Rattle.search.proofs.Forces.{flag-parts}
 
 -- no flag is set at first

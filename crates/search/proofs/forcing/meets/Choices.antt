@@ -1,7 +1,6 @@
 use mathlib.Core.Path.{_≡_}
-use mathlib.Core.Bool.{true, false}
-use Prim.Native.Nat.{ℕ, _/_, _%_, _<_}
-use lib.ListN.{getD}
+use mathlib.Core.Bool.{true}
+use Prim.Native.Nat.{ℕ, _<_}
 use Rattle.search.specs.Forcing.{flagAt}
 use Rattle.search.proofs.forcing.meets.Given as given
 

@@ -1,5 +1,3 @@
-use borrow.Author.Needs.{needs}
-use mathlib.Core.Path.{refl}
 use native.Mathlib.Omega.{arith}
 use Rattle.search.proofs.Forces.{fewer-left}
 use Rattle.search.proofs.Grounds.{raised-first, raised-more, raised-all}

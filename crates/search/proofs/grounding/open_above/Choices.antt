@@ -3,7 +3,6 @@ use mathlib.Core.Bool.{true, false}
 use Prim.Native.Nat.{ℕ, _<_}
 use lib.ListN.{getD}
 use Rattle.search.specs.Forcing.{flagAt}
-use Rattle.search.specs.Grounding.{OpenAbove}
 use Rattle.search.proofs.grounding.open_above.Given as given
 
 abbrev pub Inv-loop-place : given.InvT-loop-place

@@ -1,7 +1,6 @@
 use mathlib.Core.Path.{_≡_}
-use mathlib.Core.Bool.{true, false}
+use mathlib.Core.Bool.{true}
 use Prim.Native.Nat.{ℕ, _<_}
-use lib.ListN.{getD}
 use Rattle.search.specs.Forcing.{flagAt}
 use Rattle.search.specs.Grounding.{OpenAbove}
 use Rattle.search.proofs.grounding.waits.Given as given
