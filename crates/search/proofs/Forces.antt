@@ -11,7 +11,7 @@ use lib.Seq.{getD-set-same, getD-set-other}
 use Rattle.std.specs.shelf.Lists.{countBy}
 use Rattle.std.proofs.shelf.Sums.{sumBy-set}
 use Rattle.std.proofs.shelf.Tests.{and-parts, and-from, lt-ltb, ltb-true, eq-eqb, eqb-true, cases-bool, cases-eq, both-ways}
-use Rattle.model.proofs.Tests.{is-true, holds}
+use Rattle.rules.proofs.Marked.{T-true as is-true, true-T as holds}
 use Rattle.search.specs.Forcing.{flagAt, Forced, ForcedNow, Decides}
 
 -- a flag that is set is at two places below eight
