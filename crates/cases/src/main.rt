@@ -1,4 +1,5 @@
 //! Worked cases that are run: what they print is compared with what they should.
+#![tactic(auto)]
 
 mod filling;
 mod lines;

@@ -1,4 +1,6 @@
 //! The subject: names, kinds and links, the facts, rules and questions over them, and why a call is refused.
+#![tactic(auto)]
+
 mod cover;
 pub mod facts;
 pub mod faults;

@@ -1,4 +1,6 @@
 //! Stores of facts: what every store does, and two stores over memory that the caller lends.
+#![tactic(auto)]
+
 pub mod bit_store;
 pub mod bits;
 pub mod contract;

@@ -14,8 +14,8 @@ loop-node-smaller g c =
 
 pub loop-node-preserved : goal.loop-node-preserved
 loop-node-preserved g c =
-    searched-more (g.G.Graph.edge c.args.graph.now) c.args.set.now c.loop-node.set c.loop-node.finished c.add-successors.new.set c.in-Some.node c.loop-node.invariant c.in-Some.ensures.1 c.add-successors.ensures (search rules)
+    searched-more (g.G.Graph.edge c.args.graph.now) c.args.set.now c.loop-node.set c.loop-node.finished c.add_successors.new.set c.in-Some.node c.loop-node.invariant c.in-Some.ensures.1 c.add_successors.ensures (search rules)
 
 pub returns : goal.returns
 returns g c =
-    searched-all (g.G.Graph.edge c.args.graph.now) c.args.set.now c.loop-node.set c.loop-node.finished c.loop-node.invariant c.in-default.ensures
+    searched-all (g.G.Graph.edge c.args.graph.now) c.args.set.now c.loop-node.set c.loop-node.finished c.loop-node.invariant c.in_default.ensures

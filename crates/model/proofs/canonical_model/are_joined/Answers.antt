@@ -7,12 +7,12 @@ use Rattle.model.proofs.canonical_model.are_joined.Goals as goal
 pub loop-code-init : goal.loop-code-init
 loop-code-init g c = some-none _
 
-pub returns-then-is-joined-by : goal.returns-then-is-joined-by
-returns-then-is-joined-by g c =
+pub returns-then-is_joined_by : goal.returns-then-is_joined_by
+returns-then-is_joined_by g c =
     sym (some-true 64 (name_fact (tabled c.args.model.now.tables) (g.S.Store.means c.args.model.now.store.now).facts c.args.role c.args.from c.args.to)
-    c.loop-code.code c.loop-code-test.true (sym c.if-is-joined-by.ensures))
+    c.loop-code.code c.loop-code-test.true (sym c.if-is_joined_by.ensures))
 
 pub loop-code-preserved : goal.loop-code-preserved
 loop-code-preserved g c =
     some-else c.loop-code.code (name_fact (tabled c.args.model.now.tables) (g.S.Store.means c.args.model.now.store.now).facts c.args.role c.args.from c.args.to)
-    c.is-joined-by.result c.loop-code.invariant c.is-joined-by.ensures c.if-is-joined-by.false
+    c.is_joined_by.result c.loop-code.invariant c.is_joined_by.ensures c.if-is_joined_by.false

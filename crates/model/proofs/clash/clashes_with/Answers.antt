@@ -8,10 +8,10 @@ use Rattle.model.proofs.clash.clashes_with.Goals as goal
 pub loop-other-init : goal.loop-other-init
 loop-other-init g c = some-none _
 
-pub returns-then-clashes-at : goal.returns-then-clashes-at
-returns-then-clashes-at g c =
-    sym (some-true 128 (clashes_at (tabled c.args.model.now.tables) (means c.args.model.now.rules.now).rules c.args.code) c.loop-other.other c.loop-other-test.true (sym c.if-clashes-at.ensures))
+pub returns-then-clashes_at : goal.returns-then-clashes_at
+returns-then-clashes_at g c =
+    sym (some-true 128 (clashes_at (tabled c.args.model.now.tables) (means c.args.model.now.rules.now).rules c.args.code) c.loop-other.other c.loop-other-test.true (sym c.if-clashes_at.ensures))
 
 pub loop-other-preserved : goal.loop-other-preserved
 loop-other-preserved g c =
-    some-else c.loop-other.other (clashes_at (tabled c.args.model.now.tables) (means c.args.model.now.rules.now).rules c.args.code) c.clashes-at.result c.loop-other.invariant c.clashes-at.ensures c.if-clashes-at.false
+    some-else c.loop-other.other (clashes_at (tabled c.args.model.now.tables) (means c.args.model.now.rules.now).rules c.args.code) c.clashes_at.result c.loop-other.invariant c.clashes_at.ensures c.if-clashes_at.false

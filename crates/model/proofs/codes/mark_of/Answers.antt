@@ -8,4 +8,4 @@ pub returns-then-code-lt64 : goal.returns-then-code-lt64
 returns-then-code-lt64 c = sym (small-mark c.args.code c.if-code-lt64.true)
 
 pub returns : goal.returns
-returns c = ap {B = Mark} Has c.role-of.ensures ∙ sym (large-mark c.args.code (omega (arith, c.if-code-lt64.false)))
+returns c = ap {B = Mark} Has c.role_of.ensures ∙ sym (large-mark c.args.code (omega (arith, c.if-code-lt64.false)))

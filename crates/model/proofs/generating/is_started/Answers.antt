@@ -6,10 +6,10 @@ use Rattle.model.proofs.generating.is_started.Goals as goal
 pub loop-name-init : goal.loop-name-init
 loop-name-init c = some-none _
 
-pub returns-then-has-start : goal.returns-then-has-start
-returns-then-has-start c =
-    sym (some-true c.args.names (λ a. flag_in 1024 128 c.args.rows.now.starts a c.args.code) c.loop-name.name c.loop-name-test.true (sym c.if-has-start.ensures))
+pub returns-then-has_start : goal.returns-then-has_start
+returns-then-has_start c =
+    sym (some-true c.args.names (λ a. flag_in 1024 128 c.args.rows.now.starts a c.args.code) c.loop-name.name c.loop-name-test.true (sym c.if-has_start.ensures))
 
 pub loop-name-preserved : goal.loop-name-preserved
 loop-name-preserved c =
-    some-else c.loop-name.name (λ a. flag_in 1024 128 c.args.rows.now.starts a c.args.code) c.has-start.result c.loop-name.invariant c.has-start.ensures c.if-has-start.false
+    some-else c.loop-name.name (λ a. flag_in 1024 128 c.args.rows.now.starts a c.args.code) c.has_start.result c.loop-name.invariant c.has_start.ensures c.if-has_start.false

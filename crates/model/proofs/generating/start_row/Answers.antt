@@ -5,7 +5,7 @@ pub loop-code-init : goal.loop-code-init
 loop-code-init c = filling-none 128 _
 
 pub loop-code-preserved : goal.loop-code-preserved
-loop-code-preserved c = filling-more 128 _ _ _ _ c.loop-code.invariant c.loop-code-test.true c.is-started.ensures
+loop-code-preserved c = filling-more 128 _ _ _ _ c.loop-code.invariant c.loop-code-test.true c.is_started.ensures
 
 pub returns : goal.returns
 returns c = filling-end 128 _ 128 _ _ c.loop-code.invariant c.loop-code.auto.code-end c.loop-code-test.false

@@ -9,7 +9,7 @@ loop-code-init g c = filling-none 192 _
 pub loop-code-preserved : goal.loop-code-preserved
 loop-code-preserved g c =
     filling-more 192 _ _ _ _ c.loop-code.invariant (omega (arith, c.loop-code-test.true))
-    (c.is-given.ensures ∙ ap (is_given (g.S.Store.means c.args.store.now) c.args.name) c.mark-of.ensures)
+    (c.is_given.ensures ∙ ap (is_given (g.S.Store.means c.args.store.now) c.args.name) c.mark_of.ensures)
 
 pub returns : goal.returns
 returns g c = filling-end 192 _ 128 _ _ c.loop-code.invariant c.loop-code.auto.code-end c.loop-code-test.false

@@ -9,7 +9,7 @@ loop-code-init c = filling-none 192 _
 pub loop-code-preserved : goal.loop-code-preserved
 loop-code-preserved c =
     filling-more 192 _ _ _ _ c.loop-code.invariant c.loop-code-test.true
-    (c.is-implied.ensures ∙ ap (implied_by c.args.consequences.now c.args.given.now) c.mark-of.ensures)
+    (c.is_implied.ensures ∙ ap (implied_by c.args.consequences.now c.args.given.now) c.mark_of.ensures)
 
 pub returns : goal.returns
 returns c = filling-end 192 _ 192 _ _ c.loop-code.invariant c.loop-code.auto.code-end c.loop-code-test.false

@@ -10,9 +10,9 @@ pub returns-then-has : goal.returns-then-has
 returns-then-has g c =
     let h = g.S.Store.means c.args.store.now in
     sym (some-true h.names (λ b. h.facts (fact_of c.args.role c.args.name (name_of b))) c.loop-partner.partner
-    (omega (arith, c.names-partner-end.ensures, c.loop-partner-test.true)) (ap h.facts (sym c.fact-of.ensures) ∙ sym c.if-has.ensures))
+    (omega (arith, c.names-partner-end.ensures, c.loop-partner-test.true)) (ap h.facts (sym c.fact_of.ensures) ∙ sym c.if-has.ensures))
 
 pub loop-partner-preserved : goal.loop-partner-preserved
 loop-partner-preserved g c =
     let h = g.S.Store.means c.args.store.now in
-    some-else c.loop-partner.partner (λ b. h.facts (fact_of c.args.role c.args.name (name_of b))) c.has.result c.loop-partner.invariant (c.has.ensures ∙ ap h.facts c.fact-of.ensures) c.if-has.false
+    some-else c.loop-partner.partner (λ b. h.facts (fact_of c.args.role c.args.name (name_of b))) c.has.result c.loop-partner.invariant (c.has.ensures ∙ ap h.facts c.fact_of.ensures) c.if-has.false

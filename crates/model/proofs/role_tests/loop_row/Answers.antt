@@ -9,7 +9,7 @@ loop-code-init c = filling-none 128 _
 pub loop-code-preserved : goal.loop-code-preserved
 loop-code-preserved c =
     filling-more 128 _ _ _ _ c.loop-code.invariant c.loop-code-test.true
-    (c.forms-loop.ensures ∙ ap (told_loop c.args.consequences.now c.args.role) c.role-of.ensures)
+    (c.forms_loop.ensures ∙ ap (told_loop c.args.consequences.now c.args.role) c.role_of.ensures)
 
 pub returns : goal.returns
 returns c = filling-end 128 _ 128 _ _ c.loop-code.invariant c.loop-code.auto.code-end c.loop-code-test.false

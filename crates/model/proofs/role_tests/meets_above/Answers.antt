@@ -6,10 +6,10 @@ use Rattle.model.proofs.role_tests.meets_above.Goals as goal
 pub loop-code-init : goal.loop-code-init
 loop-code-init c = some-none _
 
-pub returns-then-is-above-both : goal.returns-then-is-above-both
-returns-then-is-above-both c =
-    sym (some-true 128 (above_both c.args.consequences.now c.args.role c.args.other) c.loop-code.code c.loop-code-test.true (sym c.if-is-above-both.ensures))
+pub returns-then-is_above_both : goal.returns-then-is_above_both
+returns-then-is_above_both c =
+    sym (some-true 128 (above_both c.args.consequences.now c.args.role c.args.other) c.loop-code.code c.loop-code-test.true (sym c.if-is_above_both.ensures))
 
 pub loop-code-preserved : goal.loop-code-preserved
 loop-code-preserved c =
-    some-else c.loop-code.code (above_both c.args.consequences.now c.args.role c.args.other) c.is-above-both.result c.loop-code.invariant c.is-above-both.ensures c.if-is-above-both.false
+    some-else c.loop-code.code (above_both c.args.consequences.now c.args.role c.args.other) c.is_above_both.result c.loop-code.invariant c.is_above_both.ensures c.if-is_above_both.false

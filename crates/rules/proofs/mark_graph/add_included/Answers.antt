@@ -10,6 +10,6 @@ returns-then-node-ge128 c k l =
 
 pub returns : goal.returns
 returns c k l =
-    c.add-row.ensures k l
+    c.add_row.ensures k l
     ∙ ap (λ (b : Bool). get_or c.args.set.now k false || b)
     (from_first c.row.result k ∙ (c.row.ensures k ∙ include-row c.args.table.now c.args.node k c.if-node-ge128.false))

@@ -13,13 +13,13 @@ returns-then-node-eq0 c k l =
     or_nothing (get_or c.args.set.now k false) _
     (lands-even c.args.table.now c.args.node k (omega arith) (omega arith))
 
-pub returns-in-default : goal.returns-in-default
-returns-in-default c k l =
+pub returns-in_default : goal.returns-in_default
+returns-in_default c k l =
     or_nothing (get_or c.args.set.now k false) _
-    (lands-none c.args.table.now c.args.node k (omega arith) (omega arith) c.in-default.ensures)
+    (lands-none c.args.table.now c.args.node k (omega arith) (omega arith) c.in_default.ensures)
 
 pub returns : goal.returns
 returns c k l =
-    c.add-node.ensures k l
+    c.add_node.ensures k l
     ∙ ap (λ (b : Bool). get_or c.args.set.now k false || b)
     (lands-some c.args.table.now c.args.node k c.in-Some.pair (omega arith) (omega arith) c.in-Some.ensures)

@@ -15,7 +15,7 @@ returns-then-node-ge192 c k l =
 
 pub returns : goal.returns
 returns c k l =
-    c.add-row.ensures k l
+    c.add_row.ensures k l
     ∙ ap (λ (b : Bool). get_or c.args.set.now k false || b)
     (ap (λ (b : Bool). leb 64 k && b) (c.row.ensures (k - 64))
     ∙ lifts-row c.args.below.now.cells c.args.node k c.if-node-lt64.false)

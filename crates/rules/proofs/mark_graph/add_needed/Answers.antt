@@ -30,7 +30,7 @@ loop-number-preserved c k l =
     elim c.if-has.branch [
       | then-has w ↦
           ap (λ (xs : List Bool). get_or xs k false) w.set-is
-          ∙ (w.add-node.ensures k l'
+          ∙ (w.add_node.ensures k l'
           ∙ needs-more-yes c.args.table.now c.args.node c.if-node-ge128.false c.loop-number.number k (get_or c.args.set.now k false) (get_or c.loop-number.set k false) (sym c.has.ensures ∙ w.if-has.true) (c.loop-number.invariant k l))
       | else-has w ↦
           ap (λ (xs : List Bool). get_or xs k false) w.set-is

@@ -14,4 +14,4 @@ loop-pair-smaller c =
     let e = c.in-Some.ensures in fewer-left c.loop-pair.same c.in-Some.pair (omega (arith, e.0, c.loop-pair.invariant.long)) e.1
 
 pub returns : goal.returns
-returns c = flagged-all c.args.down.now c.loop-pair.same c.loop-pair.invariant c.in-default.ensures
+returns c = flagged-all c.args.down.now c.loop-pair.same c.loop-pair.invariant c.in_default.ensures

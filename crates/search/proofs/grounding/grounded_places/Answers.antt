@@ -17,4 +17,4 @@ loop-place-smaller c =
     in fewer-left c.loop-place.flags c.in-Some.place (omega (arith, e.0, c.loop-place.invariant.long)) e.1
 
 pub returns : goal.returns
-returns c = raised_all c.args.down.now c.args.same.now c.loop-place.flags c.loop-place.invariant c.in-default.ensures
+returns c = raised_all c.args.down.now c.args.same.now c.loop-place.flags c.loop-place.invariant c.in_default.ensures

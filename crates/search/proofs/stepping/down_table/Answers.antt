@@ -6,5 +6,5 @@ loop-pair-preserved g c = (
   simp length-set c.loop-pair.invariant.0,
   below_more _ _
       (λ k h. let ne : k ≢ c.loop-pair.pair = omega arith in rw get_or-set_other (c.loop-pair.invariant.1 k h))
-      (let lt : c.loop-pair.pair < length c.loop-pair.table = omega arith in rw get_or-set_same c.some-goes-down.ensures),
+      (let lt : c.loop-pair.pair < length c.loop-pair.table = omega arith in rw get_or-set_same c.some_goes_down.ensures),
 )

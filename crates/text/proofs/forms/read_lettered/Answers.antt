@@ -3,9 +3,9 @@ use Rattle.std.proofs.lemmas.List.{take_rest}
 use Rattle.text.specs.Forms.{beside, numeral, lettered}
 use Rattle.text.proofs.forms.read_lettered.Goals as goal
 
-pub returns-in-default : goal.returns-in-default
+pub returns-in_default : goal.returns-in_default
 unfolding lettered
-returns-in-default c = search rules
+returns-in_default c = search rules
 
 pub returns-in-Some : goal.returns-in-Some
 unfolding lettered

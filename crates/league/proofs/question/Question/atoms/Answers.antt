@@ -5,4 +5,4 @@ use Rattle.league.proofs.question.Question.atoms.Goals as goal
 pub returns : goal.returns
 returns c =
     let q = c.args.self.now
-    in record { own = c.filled-atoms.ensures; proper = accepted-proper q.answers (atoms_of q) q.accepted }
+    in record { own = c.filled_atoms.ensures; proper = accepted-proper q.answers (atoms_of q) q.accepted }

@@ -6,4 +6,4 @@ use Rattle.league.proofs.question.Question.terms.Goals as goal
 pub returns : goal.returns
 returns c =
     let q = c.args.self.now
-    in record { own = c.filled-terms.ensures; ordered = in_order q.answers (atoms_of q) (accepted-proper q.answers (atoms_of q) q.accepted) }
+    in record { own = c.filled_terms.ensures; ordered = in_order q.answers (atoms_of q) (accepted-proper q.answers (atoms_of q) q.accepted) }

@@ -9,10 +9,10 @@ use Rattle.model.proofs.canonical.CanonicalModel.clash.Goals as goal
 pub loop-code-init : goal.loop-code-init
 loop-code-init g c = some-none _
 
-pub returns-then-clashes-with : goal.returns-then-clashes-with
-returns-then-clashes-with g c =
-    sym (some-true 128 (λ b. some_below 128 (clashes_at (tabled c.args.self.now.tables) (means c.args.self.now.rules.now).rules b)) c.loop-code.code c.loop-code-test.true (sym c.if-clashes-with.ensures))
+pub returns-then-clashes_with : goal.returns-then-clashes_with
+returns-then-clashes_with g c =
+    sym (some-true 128 (λ b. some_below 128 (clashes_at (tabled c.args.self.now.tables) (means c.args.self.now.rules.now).rules b)) c.loop-code.code c.loop-code-test.true (sym c.if-clashes_with.ensures))
 
 pub loop-code-preserved : goal.loop-code-preserved
 loop-code-preserved g c =
-    some-else c.loop-code.code (λ b. some_below 128 (clashes_at (tabled c.args.self.now.tables) (means c.args.self.now.rules.now).rules b)) c.clashes-with.result c.loop-code.invariant c.clashes-with.ensures c.if-clashes-with.false
+    some-else c.loop-code.code (λ b. some_below 128 (clashes_at (tabled c.args.self.now.tables) (means c.args.self.now.rules.now).rules b)) c.clashes_with.result c.loop-code.invariant c.clashes_with.ensures c.if-clashes_with.false

@@ -2,22 +2,22 @@ use Rattle.std.proofs.Common.{refl}
 use Rattle.model.proofs.Built.{built-few, built-right, built-whole, built-clash}
 use Rattle.model.proofs.canonical.CanonicalModel.new.Goals as goal
 
-pub invariant-of-result : goal.invariant-of-result
-invariant-of-result g c =
+pub invariant_of-result : goal.invariant_of-result
+invariant_of-result g c =
     let store = c.args.store.now in
     let h = g.S.Store.means store in
-    let e = c.tables-of-tables.ensures in (
-      built-few h (g.S.Store.sound store) c.args.rules.now c.tables-of-tables.result c.args.consequences.now e.same c.requires e.made,
-      (∣ built-right h (g.S.Store.sound store) c.args.rules.now c.tables-of-tables.result c.args.consequences.now e.same c.requires e.made ∣₁, tt),
+    let e = c.tables_of-tables.ensures in (
+      built-few h (g.S.Store.sound store) c.args.rules.now c.tables_of-tables.result c.args.consequences.now e.same c.requires e.made,
+      (∣ built-right h (g.S.Store.sound store) c.args.rules.now c.tables_of-tables.result c.args.consequences.now e.same c.requires e.made ∣₁, tt),
     )
 
 pub returns : goal.returns
 returns g c =
     let store = c.args.store.now in
-    let e = c.tables-of-tables.ensures in
+    let e = c.tables_of-tables.ensures in
     record {
       store = refl;
       rules = refl;
-      whole = built-whole (g.S.Store.means store) (g.S.Store.sound store) c.args.rules.now c.tables-of-tables.result c.args.consequences.now e.same c.requires e.made;
-      clash = built-clash (g.S.Store.means store) (g.S.Store.sound store) c.args.rules.now c.tables-of-tables.result c.args.consequences.now e.same c.requires e.made;
+      whole = built-whole (g.S.Store.means store) (g.S.Store.sound store) c.args.rules.now c.tables_of-tables.result c.args.consequences.now e.same c.requires e.made;
+      clash = built-clash (g.S.Store.means store) (g.S.Store.sound store) c.args.rules.now c.tables_of-tables.result c.args.consequences.now e.same c.requires e.made;
     }

@@ -7,10 +7,10 @@ use Rattle.model.proofs.canonical_tables.CanonicalTables.some_name_holds.Goals a
 pub loop-name-init : goal.loop-name-init
 loop-name-init c = some-none _
 
-pub returns-then-name-holds : goal.returns-then-name-holds
-returns-then-name-holds c =
-    sym (some-true c.args.self.now.names (name_holds (tabled c.args.self.now) c.args.left c.args.right) c.loop-name.name c.loop-name-test.true (sym c.if-name-holds.ensures))
+pub returns-then-name_holds : goal.returns-then-name_holds
+returns-then-name_holds c =
+    sym (some-true c.args.self.now.names (name_holds (tabled c.args.self.now) c.args.left c.args.right) c.loop-name.name c.loop-name-test.true (sym c.if-name_holds.ensures))
 
 pub loop-name-preserved : goal.loop-name-preserved
 loop-name-preserved c =
-    some-else c.loop-name.name (name_holds (tabled c.args.self.now) c.args.left c.args.right) c.name-holds.result c.loop-name.invariant c.name-holds.ensures c.if-name-holds.false
+    some-else c.loop-name.name (name_holds (tabled c.args.self.now) c.args.left c.args.right) c.name_holds.result c.loop-name.invariant c.name_holds.ensures c.if-name_holds.false

@@ -7,10 +7,10 @@ use Rattle.model.proofs.canonical_tables.CanonicalTables.some_witness_holds.Goal
 pub loop-code-init : goal.loop-code-init
 loop-code-init c = some-none _
 
-pub returns-then-witness-holds : goal.returns-then-witness-holds
-returns-then-witness-holds c =
-    sym (some-true 128 (witness_holds (tabled c.args.self.now) c.args.left c.args.right) c.loop-code.code c.loop-code-test.true (sym c.if-witness-holds.ensures))
+pub returns-then-witness_holds : goal.returns-then-witness_holds
+returns-then-witness_holds c =
+    sym (some-true 128 (witness_holds (tabled c.args.self.now) c.args.left c.args.right) c.loop-code.code c.loop-code-test.true (sym c.if-witness_holds.ensures))
 
 pub loop-code-preserved : goal.loop-code-preserved
 loop-code-preserved c =
-    some-else c.loop-code.code (witness_holds (tabled c.args.self.now) c.args.left c.args.right) c.witness-holds.result c.loop-code.invariant c.witness-holds.ensures c.if-witness-holds.false
+    some-else c.loop-code.code (witness_holds (tabled c.args.self.now) c.args.left c.args.right) c.witness_holds.result c.loop-code.invariant c.witness_holds.ensures c.if-witness_holds.false

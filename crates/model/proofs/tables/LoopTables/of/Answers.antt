@@ -12,8 +12,8 @@ loop-code-init c = loops-none _ _
 pub loop-code-preserved : goal.loop-code-preserved
 loop-code-preserved c =
     loops-more c.args.consequences.now _ _ _ _ _ c.loop-code.invariant c.loop-code-test.true
-    (subst (λ R. Filled c.loop-row-row.result 128 (λ s. told_loop c.args.consequences.now R (role_of s))) c.role-of.ensures c.loop-row-row.ensures)
-    c.is-any-set.ensures
+    (subst (λ R. Filled c.loop_row-row.result 128 (λ s. told_loop c.args.consequences.now R (role_of s))) c.role_of.ensures c.loop_row-row.ensures)
+    c.is_any_set.ensures
 
 pub returns : goal.returns
 returns c = record {

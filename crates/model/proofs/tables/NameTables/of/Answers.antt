@@ -9,10 +9,10 @@ pub loop-name-preserved : goal.loop-name-preserved
 loop-name-preserved g c =
     let few = (g.S.Store.sound c.args.store.now).few in
     names_more _ _ _ _ _ _ _ c.loop-name.invariant (omega (arith, few, c.names-name-end.ensures, c.loop-name-test.true)) (record {
-      given = c.given-row-given.result;
-      given_are = c.given-row-given.ensures;
-      marks_are = c.marks-row-row.ensures;
-      starts_are = c.starts-row.ensures;
+      given = c.given_row-given.result;
+      given_are = c.given_row-given.ensures;
+      marks_are = c.marks_row-row.ensures;
+      starts_are = c.starts_row.ensures;
     })
 
 pub returns : goal.returns

@@ -5,4 +5,4 @@ use Rattle.rules.proofs.consequences.Consequences.new.Goals as goal
 
 pub returns : goal.returns
 returns c =
-    decided (means c.args.table.now) (table-proper c.args.table.now) (record { roles = c.role-table-roles.result; marks = c.mark-table-marks.result }) c.role-table-roles.ensures c.mark-table-marks.ensures
+    decided (means c.args.table.now) (table-proper c.args.table.now) (record { roles = c.role_table-roles.result; marks = c.mark_table-marks.result }) c.role_table-roles.ensures c.mark_table-marks.ensures

@@ -3,8 +3,8 @@ use lib.ListN.{length-replicate}
 use Rattle.rules.proofs.Flagged.{flag-none, wide-none}
 use Rattle.rules.proofs.flags.Flags.new.Goals as goal
 
-pub invariant-of-result : goal.invariant-of-result
-invariant-of-result g c = (length-replicate g.row.ROWS (replicate g.row.COLUMNS false), (wide-none g.row.ROWS g.row.COLUMNS, tt))
+pub invariant_of-result : goal.invariant_of-result
+invariant_of-result g c = (length-replicate g.row.ROWS (replicate g.row.COLUMNS false), (wide-none g.row.ROWS g.row.COLUMNS, tt))
 
 pub returns : goal.returns
 returns g c = flag-none g.row.ROWS g.row.COLUMNS

@@ -2,8 +2,8 @@ use Rattle.std.proofs.Common.{◌≡◌, ◌<◌, length, ◌∙◌, arith, leng
 use Rattle.rules.proofs.Flagged.{wide-put, flag-put}
 use Rattle.rules.proofs.flags.Flags.put.Goals as goal
 
-pub invariant-of-self : goal.invariant-of-self
-invariant-of-self g c =
+pub invariant_of-self : goal.invariant_of-self
+invariant_of-self g c =
     let l : c.args.row < length c.args.self.now.cells = omega (arith, c.args.self.now.tall) in
     let long : length c.args.flags ≡ g.row.COLUMNS = search rules in (
       length-set c.args.self.now.cells c.args.row c.args.flags ∙ c.args.self.now.tall,

@@ -2,8 +2,8 @@ use Rattle.std.proofs.Common.{◌<◌, [], length, get_or, ◌∙◌, arith, len
 use Rattle.rules.proofs.Flagged.{flag-set, wide-set}
 use Rattle.rules.proofs.flags.Flags.set.Goals as goal
 
-pub invariant-of-self : goal.invariant-of-self
-invariant-of-self g c =
+pub invariant_of-self : goal.invariant_of-self
+invariant_of-self g c =
     let rows : c.args.row < length c.args.self.now.cells = search rules in (
       length-set c.args.self.now.cells c.args.row _ ∙ c.args.self.now.tall,
       (λ i l. wide-set c.args.self.now.cells c.args.row c.args.column i rows ∙ c.args.self.now.wide i l, tt),

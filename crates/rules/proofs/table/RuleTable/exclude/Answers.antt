@@ -7,12 +7,12 @@ use Rattle.rules.specs.Tables.{means}
 use Rattle.rules.proofs.Noting.{gain-exclusion, kept}
 use Rattle.rules.proofs.table.RuleTable.exclude.Goals as goal
 
-pub invariant-of-self : goal.invariant-of-self
-invariant-of-self c =
+pub invariant_of-self : goal.invariant_of-self
+invariant_of-self c =
     let t = c.args.self.now in
     let more = gain-exclusion t.inclusions.cells t.exclusions.cells t.required.cells t.roles.cells
-    (in_use t.pairs) c.args.left c.args.right c.note-exclusion.new.flags.cells c.requires.0 c.requires.1
-    c.note-exclusion.ensures in
+    (in_use t.pairs) c.args.left c.args.right c.note_exclusion.new.flags.cells c.requires.0 c.requires.1
+    c.note_exclusion.ensures in
     let within = and_from (mark_within c.args.left) (mark_within c.args.right) c.requires.0 c.requires.1 in
     (kept (means t) _ (Exclusion c.args.left c.args.right) within refl more t.proper, (t.empty, tt))
 
@@ -20,5 +20,5 @@ pub returns : goal.returns
 returns c =
     let t = c.args.self.now in
     gain-exclusion t.inclusions.cells t.exclusions.cells t.required.cells t.roles.cells
-    (in_use t.pairs) c.args.left c.args.right c.note-exclusion.new.flags.cells c.requires.0 c.requires.1
-    c.note-exclusion.ensures
+    (in_use t.pairs) c.args.left c.args.right c.note_exclusion.new.flags.cells c.requires.0 c.requires.1
+    c.note_exclusion.ensures

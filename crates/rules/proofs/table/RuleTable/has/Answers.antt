@@ -4,11 +4,11 @@ use Rattle.rules.specs.RuleSet.{rule_within}
 use Rattle.rules.proofs.Marked.{some-without, none_within}
 use Rattle.rules.proofs.table.RuleTable.has.Goals as goal
 
-pub is-noted-requires : goal.is-noted-requires
-is-noted-requires c = none_within c.args.rule (ap is_some (sym c.rule-fault.ensures) ∙ c.if-is-none.ensures)
+pub is_noted-requires : goal.is_noted-requires
+is_noted-requires c = none_within c.args.rule (ap is_some (sym c.rule_fault.ensures) ∙ c.if-is_none.ensures)
 
-pub returns-else-is-none : goal.returns-else-is-none
-returns-else-is-none c =
+pub returns-else-is_none : goal.returns-else-is_none
+returns-else-is_none c =
     let out : rule_within c.args.rule ≡ false =
-    some-without c.args.rule (ap is_some (sym c.rule-fault.ensures) ∙ c.if-is-none.ensures) in
-    c.if-is-none.false ∙ sym (and_left _ _ out)
+    some-without c.args.rule (ap is_some (sym c.rule_fault.ensures) ∙ c.if-is_none.ensures) in
+    c.if-is_none.false ∙ sym (and_left _ _ out)

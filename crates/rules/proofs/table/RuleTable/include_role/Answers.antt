@@ -7,12 +7,12 @@ use Rattle.rules.specs.Tables.{means}
 use Rattle.rules.proofs.Noting.{gain-role, kept}
 use Rattle.rules.proofs.table.RuleTable.include_role.Goals as goal
 
-pub invariant-of-self : goal.invariant-of-self
-invariant-of-self c =
+pub invariant_of-self : goal.invariant_of-self
+invariant_of-self c =
     let t = c.args.self.now in
     let more = gain-role t.inclusions.cells t.exclusions.cells t.required.cells t.roles.cells
-    (in_use t.pairs) c.args.sub c.args.sup c.note-role-inclusion.new.flags.cells c.requires.0 c.requires.1
-    c.note-role-inclusion.ensures in
+    (in_use t.pairs) c.args.sub c.args.sup c.note_role_inclusion.new.flags.cells c.requires.0 c.requires.1
+    c.note_role_inclusion.ensures in
     let within = and_from (role_within c.args.sub) (role_within c.args.sup) c.requires.0 c.requires.1 in
     (kept (means t) _ (RoleInclusion c.args.sub c.args.sup) within refl more t.proper, (t.empty, tt))
 
@@ -20,5 +20,5 @@ pub returns : goal.returns
 returns c =
     let t = c.args.self.now in
     gain-role t.inclusions.cells t.exclusions.cells t.required.cells t.roles.cells
-    (in_use t.pairs) c.args.sub c.args.sup c.note-role-inclusion.new.flags.cells c.requires.0 c.requires.1
-    c.note-role-inclusion.ensures
+    (in_use t.pairs) c.args.sub c.args.sup c.note_role_inclusion.new.flags.cells c.requires.0 c.requires.1
+    c.note_role_inclusion.ensures

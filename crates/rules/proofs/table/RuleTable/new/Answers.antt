@@ -5,8 +5,8 @@ use Rattle.rules.proofs.Gained.{no-rules-proper}
 use Rattle.rules.proofs.Noting.{noted-none}
 use Rattle.rules.proofs.table.RuleTable.new.Goals as goal
 
-pub invariant-of-result : goal.invariant-of-result
-invariant-of-result c = (
+pub invariant_of-result : goal.invariant_of-result
+invariant_of-result c = (
   ∣ subst Proper
       (sym (noted-none c.new.result.cells c.new-2.result.cells c.new-3.result.cells c.new-4.result.cells
       (in_use c.new-5.result)

@@ -10,18 +10,18 @@ use Rattle.rules.proofs.Noting.{at-codes, gain-required, empty-more, kept, Empty
 use Rattle.rules.proofs.Numbered.{taken, taken-number, taken-pairs}
 use Rattle.rules.proofs.table.RuleTable.require.Goals as goal
 
-pub invariant-of-self-2 : goal.invariant-of-self-2
-invariant-of-self-2 c =
+pub invariant_of-self-2 : goal.invariant_of-self-2
+invariant_of-self-2 c =
     let t = c.args.self.now in
     let ps = in_use t.pairs in
     let p = pair_of c.args.role c.args.kind in
-    let room : fits ps p ≡ true = taken (fits ps p) c.in-ok-number.number (number_of ps p) c.in-ok-number.ensures.replies in
-    let number : c.in-ok-number.number ≡ number_of ps p =
-    taken-number (fits ps p) c.in-ok-number.number (number_of ps p) c.in-ok-number.ensures.replies in
-    let pairs : in_use c.take-number.new.self ≡ with_pair ps p =
-    taken-pairs (fits ps p) _ (with_pair ps p) ps c.take-number.ensures.holds room in
-    let set = at-codes t.required.cells c.set.new.self.cells c.mark-code.result c.in-ok-number.number (mark_code c.args.mark) (number_of ps p)
-    c.mark-code.ensures.tells number c.set.ensures in
+    let room : fits ps p ≡ true = taken (fits ps p) c.in_ok-number.number (number_of ps p) c.in_ok-number.ensures.replies in
+    let number : c.in_ok-number.number ≡ number_of ps p =
+    taken-number (fits ps p) c.in_ok-number.number (number_of ps p) c.in_ok-number.ensures.replies in
+    let pairs : in_use c.take_number.new.self ≡ with_pair ps p =
+    taken-pairs (fits ps p) _ (with_pair ps p) ps c.take_number.ensures.holds room in
+    let set = at-codes t.required.cells c.set.new.self.cells c.mark_code.result c.in_ok-number.number (mark_code c.args.mark) (number_of ps p)
+    c.mark_code.ensures.tells number c.set.ensures in
     let more = gain-required t.inclusions.cells t.exclusions.cells t.required.cells t.roles.cells ps
     c.args.mark c.args.role c.args.kind c.set.new.self.cells c.requires t.empty set in (
       kept (means t) _ (Required c.args.mark c.args.role c.args.kind) c.requires room
@@ -38,13 +38,13 @@ returns c =
     let t = c.args.self.now in
     let ps = in_use t.pairs in
     let p = pair_of c.args.role c.args.kind in
-    let room : fits ps p ≡ true = taken (fits ps p) c.in-ok-number.number (number_of ps p) c.in-ok-number.ensures.replies in
-    let number : c.in-ok-number.number ≡ number_of ps p =
-    taken-number (fits ps p) c.in-ok-number.number (number_of ps p) c.in-ok-number.ensures.replies in
-    let pairs : in_use c.take-number.new.self ≡ with_pair ps p =
-    taken-pairs (fits ps p) _ (with_pair ps p) ps c.take-number.ensures.holds room in
-    let set = at-codes t.required.cells c.set.new.self.cells c.mark-code.result c.in-ok-number.number (mark_code c.args.mark) (number_of ps p)
-    c.mark-code.ensures.tells number c.set.ensures in
+    let room : fits ps p ≡ true = taken (fits ps p) c.in_ok-number.number (number_of ps p) c.in_ok-number.ensures.replies in
+    let number : c.in_ok-number.number ≡ number_of ps p =
+    taken-number (fits ps p) c.in_ok-number.number (number_of ps p) c.in_ok-number.ensures.replies in
+    let pairs : in_use c.take_number.new.self ≡ with_pair ps p =
+    taken-pairs (fits ps p) _ (with_pair ps p) ps c.take_number.ensures.holds room in
+    let set = at-codes t.required.cells c.set.new.self.cells c.mark_code.result c.in_ok-number.number (mark_code c.args.mark) (number_of ps p)
+    c.mark_code.ensures.tells number c.set.ensures in
     let more = gain-required t.inclusions.cells t.exclusions.cells t.required.cells t.roles.cells ps
     c.args.mark c.args.role c.args.kind c.set.new.self.cells c.requires t.empty set in
     record {

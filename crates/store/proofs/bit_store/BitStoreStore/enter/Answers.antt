@@ -7,7 +7,7 @@ use Rattle.store.specs.declared.bits.BitStore.{BitStore}
 use Rattle.store.proofs.Admitted.{new-reply, after-new, was-new}
 use Rattle.store.proofs.BitsHeld.{place_byte, written, held-set, counted-set}
 use Rattle.store.proofs.bit_store.BitStoreStore.enter.Goals as goal
-use Rattle.store.proofs.bit_store.BitStoreStore.enter.Goals.{In-New, After-with-bit}
+use Rattle.store.proofs.bit_store.BitStoreStore.enter.Goals.{In-New, After-with_bit}
 
 abbrev means : BitStore → Holding
 means s = held_bits s.names s.bytes.now
@@ -16,7 +16,7 @@ means s = held_bits s.names s.bytes.now
 answered-new : (c : In-New) → reply (means c.args.self.now) c.args.fact ≡ Ok New
 answered-new c =
     was-new (means c.args.self.now) c.args.fact _ _ _ _ c.has-known.ensures c.count.ensures c.limit.ensures
-    c.in-ok-entry.ensures c.in-New.is
+    c.in_ok-entry.ensures c.in-New.is
 
 -- its byte is one of the store's
 has-byte : (c : In-New) → place_of c.args.self.now.names c.args.fact / 8 < length c.args.self.now.bytes.now
@@ -25,7 +25,7 @@ has-byte c =
     place_byte s.names s.bytes.now c.args.fact (new-reply (means s) c.args.fact (answered-new c)).range s.room
 
 -- what is written sets the fact's bit
-bytes-are : (c : After-with-bit) → set c.args.self.now.bytes.now (c.place-bit.result / 8) c.with-bit.result
+bytes-are : (c : After-with_bit) → set c.args.self.now.bytes.now (c.place-bit.result / 8) c.with-bit.result
     ≡ set_bit c.args.self.now.bytes.now (place_of c.args.self.now.names c.args.fact)
 bytes-are c = written _ _ _ _ c.place-bit.ensures c.with-bit.ensures
 
@@ -35,10 +35,10 @@ bounds-self-bit c = omega (arith, has-byte (goal.at.bounds-self-bit c).In-New, c
 pub bounds-self-bit-in-New : goal.bounds-self-bit-in-New
 bounds-self-bit-in-New c = omega (arith, has-byte (goal.at.bounds-self-bit-in-New c).In-New, c.place-bit.ensures)
 
-pub invariant-of-self : goal.invariant-of-self
-invariant-of-self c =
+pub invariant_of-self : goal.invariant_of-self
+invariant_of-self c =
     let s = c.args.self.now in
-    let n = new-reply (means s) c.args.fact (answered-new (goal.at.invariant-of-self c).In-New) in
+    let n = new-reply (means s) c.args.fact (answered-new (goal.at.invariant_of-self c).In-New) in
     let t = counted-set s.names s.bytes.now c.args.fact s.count n.range s.room n.fresh s.counted in
     (s.few, (rw length-set s.room, (t ∙ ap (λ (xs : List ℕ). count_of s.names (marked s.names xs)) (sym (bytes-are c)), tt)))
 
@@ -50,5 +50,5 @@ returns-in-New c =
     let h = held-set s.names s.bytes.now c.args.fact n.range s.room in
     record {
       answers = cc (a, c.in-New.is);
-      holds = ap (held_bits s.names) (bytes-are (goal.at.returns-in-New c).After-with-bit) ∙ (h ∙ sym (after-new (means s) c.args.fact a));
+      holds = ap (held_bits s.names) (bytes-are (goal.at.returns-in-New c).After-with_bit) ∙ (h ∙ sym (after-new (means s) c.args.fact a));
     }

@@ -7,31 +7,31 @@ use Rattle.store.proofs.bits.BitStore.open.Goals as goal
 use Rattle.store.proofs.bits.BitStore.open.Goals.{After-clear}
 
 -- the bytes are those of a store of so many names, cleared
-bytes-are : (c : After-clear) → c.clear.new.bytes ≡ cleared (size_of c.names-over-usable.result) c.args.bytes.now
+bytes-are : (c : After-clear) → c.clear.new.bytes ≡ cleared (size_of c.names_over-usable.result) c.args.bytes.now
 bytes-are c = c.clear.ensures ∙ ap (λ (k : ℕ). cleared k c.args.bytes.now) c.size.ensures
 
 -- they are enough
-bytes-enough : (c : After-clear) → size_of c.names-over-usable.result ≤ length c.args.bytes.now
+bytes-enough : (c : After-clear) → size_of c.names_over-usable.result ≤ length c.args.bytes.now
 bytes-enough c =
-    subst (λ (m : ℕ). size_of m ≤ length c.args.bytes.now) (sym c.names-over-usable.ensures)
+    subst (λ (m : ℕ). size_of m ≤ length c.args.bytes.now) (sym c.names_over-usable.ensures)
     (over-room c.args.bytes.now c.args.names)
 
-pub invariant-of-result : goal.invariant-of-result
-invariant-of-result c =
-    let n = c.names-over-usable.result in
-    let b = bytes-are (goal.at.invariant-of-result c).After-clear in (
+pub invariant_of-result : goal.invariant_of-result
+invariant_of-result c =
+    let n = c.names_over-usable.result in
+    let b = bytes-are (goal.at.invariant_of-result c).After-clear in (
       omega (arith, over-few c.args.bytes.now c.args.names),
       (
-        omega (arith, bytes-enough (goal.at.invariant-of-result c).After-clear),
+        omega (arith, bytes-enough (goal.at.invariant_of-result c).After-clear),
         (counted-cleared n c.args.bytes.now ∙ ap (λ (xs : List ℕ). count_of n (marked n xs)) (sym b), tt),
       ),
     )
 
 pub returns : goal.returns
 returns c =
-    let n = c.names-over-usable.result in
+    let n = c.names_over-usable.result in
     let b = bytes-are (goal.at.returns c).After-clear in
-    let e = c.names-over-usable.ensures in
+    let e = c.names_over-usable.ensures in
     record {
       opened = ap (held_bits n) b ∙ (held-cleared n c.args.bytes.now ∙ ap (λ (m : ℕ). opened m (bit_limit m)) e);
       bytes = b ∙ ap (λ (m : ℕ). cleared (size_of m) c.args.bytes.now) e;

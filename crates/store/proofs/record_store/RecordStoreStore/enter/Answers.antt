@@ -15,7 +15,7 @@ means r = held r.names r.records.now r.len
 answered-new : (c : goal.In-New) → reply (means c.args.self.now) c.args.fact ≡ Ok New
 answered-new c =
     was-new (means c.args.self.now) c.args.fact _ _ _ _ c.has-known.ensures c.count.ensures c.limit.ensures
-    c.in-ok-entry.ensures c.in-New.is
+    c.in_ok-entry.ensures c.in-New.is
 
 -- there is a record left for it
 has_room_lem : (c : goal.In-New) → c.args.self.now.len < min (length c.args.self.now.records.now) 65535
@@ -27,8 +27,8 @@ has_room_lem c =
 pub bounds-self-self : goal.bounds-self-self
 bounds-self-self c = omega (arith, has_room_lem c)
 
-pub invariant-of-self : goal.invariant-of-self
-invariant-of-self c =
+pub invariant_of-self : goal.invariant_of-self
+invariant_of-self c =
     let r = c.args.self.now in
     let h = has_room_lem c in
     let n = new-reply (means r) c.args.fact (answered-new c) in
@@ -39,7 +39,7 @@ returns-in-New c =
     let r = c.args.self.now in
     let n =
     was-new (means r) c.args.fact _ _ _ _ c.has-known.ensures c.count.ensures c.limit.ensures
-    c.in-ok-entry.ensures c.in-New.is in
+    c.in_ok-entry.ensures c.in-New.is in
     let a = new-reply (means r) c.args.fact n in
     let l = room-left r.names r.records.now r.len r.room r.good (ltb-true (count (means r)) (means r).limit a.space) in
     record {

@@ -3,8 +3,8 @@ use Rattle.std.proofs.lemmas.Fmt.{decimal_step, decimal_digit}
 use Rattle.text.proofs.Numbers.{length-digit, length-step}
 use Rattle.text.proofs.output.OutputLine.+push_digits.Goals as goal
 
-pub push-digits-requires : goal.push-digits-requires
-push-digits-requires t c =
+pub push_digits-requires : goal.push_digits-requires
+push_digits-requires t c =
     (omega (arith, c.decreases), omega (arith, c.requires, length-step c.args.number c.if-number-lt10.false c.ranges.number.fits))
 
 pub push-requires : goal.push-requires
@@ -12,7 +12,7 @@ push-requires t c = omega (arith, c.requires, length-digit c.args.number c.if-nu
 
 pub push-requires-2 : goal.push-requires-2
 push-requires-2 t c =
-    omega (arith, c.requires, c.push-digits.ensures.len, length-step c.args.number c.if-number-lt10.false c.ranges.number.fits)
+    omega (arith, c.requires, c.push_digits.ensures.len, length-step c.args.number c.if-number-lt10.false c.ranges.number.fits)
 
 pub returns-then-number-lt10 : goal.returns-then-number-lt10
 returns-then-number-lt10 t c =
@@ -27,6 +27,6 @@ returns t c =
     let n = c.args.number in
     let step = decimal_step n c.if-number-lt10.false c.ranges.number.fits in
     record {
-      content = c.push-2.ensures.content ∙ rw (c.push-digits.ensures.content, append_assoc, ← step) refl;
-      len = omega (arith, c.push-2.ensures.len, c.push-digits.ensures.len, length-step n c.if-number-lt10.false c.ranges.number.fits);
+      content = c.push-2.ensures.content ∙ rw (c.push_digits.ensures.content, append_assoc, ← step) refl;
+      len = omega (arith, c.push-2.ensures.len, c.push_digits.ensures.len, length-step n c.if-number-lt10.false c.ranges.number.fits);
     }

@@ -3,12 +3,12 @@ use Rattle.std.proofs.lemmas.Fmt.{length-decimal-le}
 use Rattle.text.proofs.Numbers.{digits-few}
 use Rattle.text.proofs.output.OutputLine.push_number.Goals as goal
 
-pub push-digits-requires : goal.push-digits-requires
-push-digits-requires c = omega (arith, c.requires, digits-few c.args.number c.ranges.number.fits)
+pub push_digits-requires : goal.push_digits-requires
+push_digits-requires c = omega (arith, c.requires, digits-few c.args.number c.ranges.number.fits)
 
 pub returns : goal.returns
 returns c =
     record {
-      content = c.push-digits.ensures.content;
-      bound = omega (arith, c.push-digits.ensures.len, digits-few c.args.number c.ranges.number.fits);
+      content = c.push_digits.ensures.content;
+      bound = omega (arith, c.push_digits.ensures.len, digits-few c.args.number c.ranges.number.fits);
     }
