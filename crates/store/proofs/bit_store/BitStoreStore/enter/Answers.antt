@@ -25,9 +25,9 @@ has-byte c =
     place_byte s.names s.bytes.now c.args.fact (new-reply (means s) c.args.fact (answered-new c)).range s.room
 
 -- what is written sets the fact's bit
-bytes-are : (c : After-with_bit) → set c.args.self.now.bytes.now (c.place-bit.result / 8) c.with-bit.result
+bytes-are : (c : After-with_bit) → set c.args.self.now.bytes.now (c.place-bit.result / 8) c.with_bit.result
     ≡ set_bit c.args.self.now.bytes.now (place_of c.args.self.now.names c.args.fact)
-bytes-are c = written _ _ _ _ c.place-bit.ensures c.with-bit.ensures
+bytes-are c = written _ _ _ _ c.place-bit.ensures c.with_bit.ensures
 
 pub bounds-self-bit : goal.bounds-self-bit
 bounds-self-bit c = omega (arith, has-byte (goal.at.bounds-self-bit c).In-New, c.place-bit.ensures)
@@ -40,7 +40,11 @@ invariant_of-self c =
     let s = c.args.self.now in
     let n = new-reply (means s) c.args.fact (answered-new (goal.at.invariant_of-self c).In-New) in
     let t = counted-set s.names s.bytes.now c.args.fact s.count n.range s.room n.fresh s.counted in
-    (s.few, (rw length-set s.room, (t ∙ ap (λ (xs : List ℕ). count_of s.names (marked s.names xs)) (sym (bytes-are c)), tt)))
+    record {
+      few = s.few;
+      room = rw length-set s.room;
+      counted = t ∙ ap (λ (xs : List ℕ). count_of s.names (marked s.names xs)) (sym (bytes-are c));
+    }
 
 pub returns-in-New : goal.returns-in-New
 returns-in-New c =

@@ -19,13 +19,12 @@ bytes-enough c =
 pub invariant_of-result : goal.invariant_of-result
 invariant_of-result c =
     let n = c.names_over-usable.result in
-    let b = bytes-are (goal.at.invariant_of-result c).After-clear in (
-      omega (arith, over-few c.args.bytes.now c.args.names),
-      (
-        omega (arith, bytes-enough (goal.at.invariant_of-result c).After-clear),
-        (counted-cleared n c.args.bytes.now ∙ ap (λ (xs : List ℕ). count_of n (marked n xs)) (sym b), tt),
-      ),
-    )
+    let b = bytes-are (goal.at.invariant_of-result c).After-clear in
+    record {
+      few = omega (arith, over-few c.args.bytes.now c.args.names);
+      room = omega (arith, bytes-enough (goal.at.invariant_of-result c).After-clear);
+      counted = counted-cleared n c.args.bytes.now ∙ ap (λ (xs : List ℕ). count_of n (marked n xs)) (sym b);
+    }
 
 pub returns : goal.returns
 returns c =

@@ -32,7 +32,11 @@ invariant_of-self c =
     let r = c.args.self.now in
     let h = has_room_lem c in
     let n = new-reply (means r) c.args.fact (answered-new c) in
-    (r.few, (rw length-set (omega arith), (kept r.names r.records.now r.len c.args.fact h r.good n.range n.fresh, tt)))
+    record {
+      few = r.few;
+      room = rw length-set (omega arith);
+      good = kept r.names r.records.now r.len c.args.fact h r.good n.range n.fresh;
+    }
 
 pub returns-in-New : goal.returns-in-New
 returns-in-New c =
