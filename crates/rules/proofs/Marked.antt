@@ -73,11 +73,11 @@ role-code (Backward l) (Backward m) = grind (arith, nat_tests)
 add-code : (m n : ℕ) → eqb (64 + m) (64 + n) ≡ eqb m n
 add-code m n = grind (arith, nat_tests)
 
-pub mark_code : (B C : Mark) → mark_within B ≡ true → mark_within C ≡ true → eqb (mark_code C) (mark_code B) ≡ same_mark B C
-mark_code (Is k) (Is m) v w = grind (arith, nat_tests)
-mark_code (Is k) (Has S) v w = grind (arith, nat_tests)
-mark_code (Has R) (Is m) v w = grind (arith, nat_tests)
-mark_code (Has R) (Has S) v w = add-code (code S) (code R) ∙ role-code R S
+pub mark_code_lem : (B C : Mark) → mark_within B ≡ true → mark_within C ≡ true → eqb (mark_code C) (mark_code B) ≡ same_mark B C
+mark_code_lem (Is k) (Is m) v w = grind (arith, nat_tests)
+mark_code_lem (Is k) (Has S) v w = grind (arith, nat_tests)
+mark_code_lem (Has R) (Is m) v w = grind (arith, nat_tests)
+mark_code_lem (Has R) (Has S) v w = add-code (code S) (code R) ∙ role-code R S
 
 pub role-below : (R : Role) → role_within R ≡ true → code R < 64
 role-below (Forward l) w = grind (arith, nat_tests)

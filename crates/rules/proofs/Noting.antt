@@ -1,5 +1,5 @@
 -- One flag more is one rule more, in each part of a rule table.
-use Rattle.std.proofs.Common.{◌≡◌, ℕ, ◌<◌, ◌≤◌, Bool, true, false, ◌&&◌, ◌||◌, eqb, ◌⊎◌, List, [], length, Some, sym, refl, ap, ◌∙◌, subst, ⊎_elim, arith}
+use Rattle.std.proofs.Common.{◌≡◌, ℕ, ◌<◌, ◌≤◌, Bool, true, false, ◌&&◌, ◌||◌, eqb, List, [], length, Some, sym, refl, ap, ◌∙◌, subst, ⊎_elim, arith}
 use mathlib.Core.Path.{fun_ext}
 use mathlib.Core.Logic.{∥∥₁_map}
 use Rattle.std.specs.List.{slice_get}
@@ -17,7 +17,7 @@ use Rattle.rules.specs.Pairs.{pair_of, same_pair, number_of, has_pair, with_pair
 use Rattle.rules.specs.RuleSet.{RuleSet, no_rules, same_rule, rule_within, has_room, gained, Proper}
 use Rattle.rules.specs.declared.pair.Pair.{Pair}
 use Rattle.rules.proofs.Gained.{same-within, or_swap, and-swap, gained-proper}
-use Rattle.rules.proofs.Marked.{role-code, mark_code, same-turned}
+use Rattle.rules.proofs.Marked.{role-code, mark_code_lem, same-turned}
 use Rattle.rules.proofs.Numbered.{pair-self, pair_eq, number_at, with_number, with-has, with-length, with-other, with-has-other}
 
 -- no flag is set
@@ -75,7 +75,7 @@ module _ (inc exc req rol : List (List Bool)) (ps : List Pair) where
           (same_mark B D && same_mark C E) (flag inc (mark_code D) (mark_code E))
           (λ u.
           let p = and_parts (mark_within D) (mark_within E) u in
-          rw (mark_code B D v p.0, mark_code C E w p.1) refl)
+          rw (mark_code_lem B D v p.0, mark_code_lem C E w p.1) refl)
           (λ e. same-within (Inclusion B C) (Inclusion D E) e (and_from (mark_within B) (mark_within C) v w))
       each (Exclusion D E) = refl
       each (Required D S m) = refl
@@ -101,7 +101,7 @@ module _ (inc exc req rol : List (List Bool)) (ps : List Pair) where
           ∙ cell-more (rule_within (Exclusion D E)) (two || one) (same_rule (Exclusion B C) (Exclusion D E)) f
           (λ u.
           let p = and_parts (mark_within D) (mark_within E) u in
-          rw (mark_code C D w p.0, mark_code B E v p.1, mark_code B D v p.0, mark_code C E w p.1)
+          rw (mark_code_lem C D w p.0, mark_code_lem B E v p.1, mark_code_lem B D v p.0, mark_code_lem C E w p.1)
           (or_swap (same_mark C D && same_mark B E) (same_mark B D && same_mark C E)
           ∙ ap (λ (b : Bool). (same_mark B D && same_mark C E) || b) (and-swap (same_mark C D) (same_mark B E))))
           (λ e. same-within (Exclusion B C) (Exclusion D E) e (and_from (mark_within B) (mark_within C) v w))
@@ -214,7 +214,7 @@ module _ (inc exc req rol : List (List Bool)) (ps : List Pair) (B : Mark) (R : R
       with-same (rule_within (Required D S m)) (has_pair (with_pair ps p) o) (flag after (mark_code D) (number_of (with_pair ps p) o))
       (eqb (mark_code D) (mark_code B)) (same_mark B D) (same_pair p o) (has_pair ps o && flag req (mark_code D) (number_of ps o)) (flag req (mark_code D) n)
       has set old e
-      (λ u. mark_code B D bin (and_parts (mark_within D) (role_within S && kind_within m) u).0)
+      (λ u. mark_code_lem B D bin (and_parts (mark_within D) (role_within S && kind_within m) u).0)
       (λ u. same-within (Required B R k) (Required D S m) u v)
 
   right-other : (D : Mark) (S : Role) (m : Kind) → same_pair (pair_of R k) (pair_of S m) ≡ false → Right D S m

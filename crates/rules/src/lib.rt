@@ -1,5 +1,6 @@
 //! The rules of a register: which were accepted, and the pairs that they use.
 #![tactic(auto)]
+
 pub mod consequences;
 pub mod entries;
 mod flags;

@@ -1,11 +1,10 @@
 -- When a fact is admitted as new.
-use Rattle.std.proofs.Common.{◌≡◌, ℕ, ◌<◌, Bool, true, false, cond, ltb, Ok, Err, sym, refl, ap, ◌∙◌, arith}
+use Rattle.std.proofs.Common.{◌≡◌, ℕ, Bool, true, false, ltb, Ok, sym, refl, ap, ◌∙◌, arith}
 use Rattle.std.proofs.lemmas.Bool.Decides.{nat_tests}
-use Rattle.std.proofs.lemmas.Bool.{ltb-true}
 use Rattle.league.specs.declared.facts.Fact.{Fact}
 use Rattle.league.specs.declared.facts.Fact.TheVariants.{Is, Joins}
 use Rattle.league.specs.declared.facts.Entry.{Entry}
-use Rattle.league.specs.declared.facts.Entry.TheVariants.{New, Known}
+use Rattle.league.specs.declared.facts.Entry.TheVariants.{New}
 use Rattle.league.specs.Facts.{within}
 use Rattle.store.specs.Holding.{Holding, fault_in, admitted, reply, after, gain, count}
 

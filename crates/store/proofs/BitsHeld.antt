@@ -1,5 +1,5 @@
 -- What the bytes of a bit store mean as a bit is set, and when they are cleared.
-use Rattle.std.proofs.Common.{◌≡◌, ℕ, ◌+◌, ◌*◌, ◌/◌, ◌%◌, ◌^◌, ◌<◌, ◌≤◌, Bool, true, false, List, length, get_or, drop, set, replicate, sym, refl, ap, ◌∙◌, ⊎_elim, arith}
+use Rattle.std.proofs.Common.{◌≡◌, ℕ, ◌+◌, ◌/◌, ◌%◌, ◌^◌, ◌<◌, ◌≤◌, Bool, true, false, List, length, get_or, drop, set, replicate, sym, refl, ap, ◌∙◌, ⊎_elim, arith}
 use mathlib.Core.Path.{fun_ext}
 use native.Mathlib.Nat.{zero-div}
 use Rattle.std.proofs.lemmas.List.{get_or_append_left, get_or-replicate, length-replicate}
@@ -9,7 +9,7 @@ use Rattle.league.specs.declared.facts.Fact.{Fact}
 use Rattle.league.specs.Facts.{same, plus, count_of, within}
 use Rattle.league.proofs.Counts.{count-gain, count_none, same-eq}
 use Rattle.store.specs.Holding.{gain, opened}
-use Rattle.store.specs.Bits.{place_of, is_set, with_bit, set_bit, cleared, size_of, bit_limit, names_over, marked, held_bits}
+use Rattle.store.specs.Bits.{place_of, with_bit, set_bit, cleared, size_of, bit_limit, names_over, marked, held_bits}
 use Rattle.store.proofs.BitsSet.{set_here, set_there}
 use Rattle.store.proofs.BitsPlaced.{place_same, place-below}
 

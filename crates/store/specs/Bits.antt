@@ -1,7 +1,7 @@
 -- What the bytes of a bit store mean: one bit for each fact that can be stated over n names.
 -- By bytes the layout is: kind k of name a is bit k mod 8 of byte 8·a + k/8, and link l from name a to name b is
 -- bit l mod 8 of byte 8·n + 4·(a·n + b) + l/8, where the lowest bit of a byte is bit 0.
-use Rattle.std.specs.Prelude.{ℕ, ◌+◌, ◌*◌, ◌/◌, ◌%◌, ◌^◌, Bool, cond, ◌&&◌, List, ◌++◌, length, drop, set, replicate, ◌==◌, bit_or, nat_lt, slice_index, slice_set}
+use Rattle.std.specs.Prelude.{ℕ, ◌+◌, ◌*◌, ◌/◌, ◌%◌, ◌^◌, Bool, cond, ◌&&◌, List, ◌++◌, length, drop, replicate, ◌==◌, bit_or, nat_lt, slice_index, slice_set}
 use Rattle.league.specs.declared.facts.Fact.{Fact}
 use Rattle.league.specs.declared.facts.Fact.TheVariants.{Is, Joins}
 use Rattle.league.specs.Facts.{within}

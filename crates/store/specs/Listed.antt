@@ -1,14 +1,14 @@
 -- Lemmas on the facts of a list and their number. They stand here, and not in proofs/, since the record store
 -- carries the proof of what it keeps.
-use Rattle.std.specs.Prelude.{◌≡◌, ℕ, zero, suc, ◌+◌, ◌<◌, ◌≤◌, min, Bool, true, false, cond, not, ◌&&◌, ◌||◌, List, [], ◌∷◌, ◌++◌, length, take, drop, slice_index_or, slice_set, refl}
-use Rattle.std.proofs.Common.{sym, ap, ◌∙◌, subst, arith, ⊎_elim, length-set}
+use Rattle.std.specs.Prelude.{◌≡◌, ℕ, ◌+◌, ◌<◌, ◌≤◌, min, Bool, true, false, not, ◌&&◌, ◌||◌, List, [], ◌∷◌, ◌++◌, length, take, drop, slice_index_or, slice_set, refl}
+use Rattle.std.proofs.Common.{◌∙◌, subst, arith, ⊎_elim, length-set}
 use Rattle.std.proofs.Math.Path.{fun_ext}
 use Rattle.std.proofs.lemmas.List.{at_drop_more, take_more_set, length-take-le}
-use Rattle.league.specs.declared.facts.Fact.TheVariants.{Is, Joins}
-use Rattle.std.proofs.lemmas.Bool.{and_parts, and_from, or_parts, or_cases, not-true, not_from_false}
+use Rattle.league.specs.declared.facts.Fact.TheVariants.{Is}
+use Rattle.std.proofs.lemmas.Bool.{and_parts, or_parts, or_cases, not-true}
 use Rattle.league.specs.declared.facts.Fact.{Fact}
 use Rattle.league.specs.Facts.{same, plus, count_of, within}
-use Rattle.store.specs.Holding.{Holding, count, gain, Sound}
+use Rattle.store.specs.Holding.{count, gain, Sound}
 use Rattle.league.proofs.Counts.{count-gain, count_none, same-sym, same-eq}
 use Rattle.store.specs.Records.{listed, distinct, held}
 

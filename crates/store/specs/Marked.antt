@@ -3,7 +3,7 @@ use Rattle.std.specs.Prelude.{ℕ, ◌≤◌, List}
 use Rattle.std.proofs.lemmas.Bool.{and_parts}
 use Rattle.league.specs.Facts.{within}
 use Rattle.league.proofs.Counts.{count-le}
-use Rattle.store.specs.Holding.{Holding, Sound}
+use Rattle.store.specs.Holding.{Sound}
 use Rattle.store.specs.Bits.{place_of, is_set, marked, held_bits}
 
 pub held-bits-sound : (n : ℕ) (xs : List ℕ) → n ≤ 1024 → Sound (held_bits n xs)

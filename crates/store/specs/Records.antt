@@ -1,5 +1,5 @@
 -- What the records of a record store mean.
-use Rattle.std.specs.Prelude.{ℕ, min, Bool, true, false, cond, not, ◌&&◌, ltb, List, [], ◌∷◌, length, take}
+use Rattle.std.specs.Prelude.{ℕ, min, Bool, true, false, not, ◌&&◌, List, [], ◌∷◌, length, take}
 use Rattle.league.specs.declared.facts.Fact.{Fact}
 use Rattle.league.specs.Facts.{plus, within}
 use Rattle.store.specs.Holding.{Holding}

@@ -6,4 +6,4 @@ use Rattle.rules.proofs.following.role_table.Goals as goal
 
 pub loop-node-preserved : goal.loop-node-preserved
 loop-node-preserved c =
-    row_more (Star (Step (role_step (means c.args.table.now)) 128)) c.loop-node.rows.cells c.put.new.self.cells c.loop-node.node c.role-row.result c.put.ensures c.loop-node.invariant c.role-row.ensures
+    row_more (Star (Step (role_step (means c.args.table.now)) 128)) c.loop-node.rows.cells c.put.new.self.cells c.loop-node.node c.role_row.result c.put.ensures c.loop-node.invariant c.role_row.ensures

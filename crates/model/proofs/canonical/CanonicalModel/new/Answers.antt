@@ -6,10 +6,11 @@ pub invariant_of-result : goal.invariant_of-result
 invariant_of-result g c =
     let store = c.args.store.now in
     let h = g.S.Store.means store in
-    let e = c.tables_of-tables.ensures in (
-      built-few h (g.S.Store.sound store) c.args.rules.now c.tables_of-tables.result c.args.consequences.now e.same c.requires e.made,
-      (∣ built-right h (g.S.Store.sound store) c.args.rules.now c.tables_of-tables.result c.args.consequences.now e.same c.requires e.made ∣₁, tt),
-    )
+    let e = c.tables_of-tables.ensures in
+    record {
+      few = built-few h (g.S.Store.sound store) c.args.rules.now c.tables_of-tables.result c.args.consequences.now e.same c.requires e.made;
+      right = ∣ built-right h (g.S.Store.sound store) c.args.rules.now c.tables_of-tables.result c.args.consequences.now e.same c.requires e.made ∣₁;
+    }
 
 pub returns : goal.returns
 returns g c =

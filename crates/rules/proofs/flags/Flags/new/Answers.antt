@@ -4,7 +4,10 @@ use Rattle.rules.proofs.Flagged.{flag-none, wide-none}
 use Rattle.rules.proofs.flags.Flags.new.Goals as goal
 
 pub invariant_of-result : goal.invariant_of-result
-invariant_of-result g c = (length-replicate g.row.ROWS (replicate g.row.COLUMNS false), (wide-none g.row.ROWS g.row.COLUMNS, tt))
+invariant_of-result g c = record {
+  tall = length-replicate g.row.ROWS (replicate g.row.COLUMNS false);
+  wide = wide-none g.row.ROWS g.row.COLUMNS;
+}
 
 pub returns : goal.returns
 returns g c = flag-none g.row.ROWS g.row.COLUMNS

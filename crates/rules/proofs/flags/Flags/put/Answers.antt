@@ -5,10 +5,11 @@ use Rattle.rules.proofs.flags.Flags.put.Goals as goal
 pub invariant_of-self : goal.invariant_of-self
 invariant_of-self g c =
     let l : c.args.row < length c.args.self.now.cells = omega (arith, c.args.self.now.tall) in
-    let long : length c.args.flags ≡ g.row.COLUMNS = search rules in (
-      length-set c.args.self.now.cells c.args.row c.args.flags ∙ c.args.self.now.tall,
-      (λ i h. wide-put c.args.self.now.cells c.args.row c.args.flags l g.row.COLUMNS i long (c.args.self.now.wide i h), tt),
-    )
+    let long : length c.args.flags ≡ g.row.COLUMNS = search rules in
+    record {
+      tall = length-set c.args.self.now.cells c.args.row c.args.flags ∙ c.args.self.now.tall;
+      wide = λ i h. wide-put c.args.self.now.cells c.args.row c.args.flags l g.row.COLUMNS i long (c.args.self.now.wide i h);
+    }
 
 pub returns : goal.returns
 returns g c =

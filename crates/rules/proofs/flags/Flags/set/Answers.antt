@@ -4,10 +4,11 @@ use Rattle.rules.proofs.flags.Flags.set.Goals as goal
 
 pub invariant_of-self : goal.invariant_of-self
 invariant_of-self g c =
-    let rows : c.args.row < length c.args.self.now.cells = search rules in (
-      length-set c.args.self.now.cells c.args.row _ ∙ c.args.self.now.tall,
-      (λ i l. wide-set c.args.self.now.cells c.args.row c.args.column i rows ∙ c.args.self.now.wide i l, tt),
-    )
+    let rows : c.args.row < length c.args.self.now.cells = search rules in
+    record {
+      tall = length-set c.args.self.now.cells c.args.row _ ∙ c.args.self.now.tall;
+      wide = λ i l. wide-set c.args.self.now.cells c.args.row c.args.column i rows ∙ c.args.self.now.wide i l;
+    }
 
 pub returns : goal.returns
 returns g c i j =

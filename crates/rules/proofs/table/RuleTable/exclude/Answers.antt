@@ -14,7 +14,7 @@ invariant_of-self c =
     (in_use t.pairs) c.args.left c.args.right c.note_exclusion.new.flags.cells c.requires.0 c.requires.1
     c.note_exclusion.ensures in
     let within = and_from (mark_within c.args.left) (mark_within c.args.right) c.requires.0 c.requires.1 in
-    (kept (means t) _ (Exclusion c.args.left c.args.right) within refl more t.proper, (t.empty, tt))
+    record { proper = kept (means t) _ (Exclusion c.args.left c.args.right) within refl more t.proper; empty = t.empty }
 
 pub returns : goal.returns
 returns c =

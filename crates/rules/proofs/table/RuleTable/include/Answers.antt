@@ -14,7 +14,7 @@ invariant_of-self c =
     (in_use t.pairs) c.args.sub c.args.sup c.set.new.self.cells c.requires.0 c.requires.1
     (at-codes t.inclusions.cells c.set.new.self.cells c.mark_code.result c.mark_code-2.result _ _ c.mark_code.ensures.tells c.mark_code-2.ensures.tells c.set.ensures) in
     let within = and_from (mark_within c.args.sub) (mark_within c.args.sup) c.requires.0 c.requires.1 in
-    (kept (means t) _ (Inclusion c.args.sub c.args.sup) within refl more t.proper, (t.empty, tt))
+    record { proper = kept (means t) _ (Inclusion c.args.sub c.args.sup) within refl more t.proper; empty = t.empty }
 
 pub returns : goal.returns
 returns c =

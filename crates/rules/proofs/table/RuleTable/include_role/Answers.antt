@@ -14,7 +14,7 @@ invariant_of-self c =
     (in_use t.pairs) c.args.sub c.args.sup c.note_role_inclusion.new.flags.cells c.requires.0 c.requires.1
     c.note_role_inclusion.ensures in
     let within = and_from (role_within c.args.sub) (role_within c.args.sup) c.requires.0 c.requires.1 in
-    (kept (means t) _ (RoleInclusion c.args.sub c.args.sup) within refl more t.proper, (t.empty, tt))
+    record { proper = kept (means t) _ (RoleInclusion c.args.sub c.args.sup) within refl more t.proper; empty = t.empty }
 
 pub returns : goal.returns
 returns c =

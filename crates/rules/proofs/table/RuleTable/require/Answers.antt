@@ -23,15 +23,13 @@ invariant_of-self-2 c =
     let set = at-codes t.required.cells c.set.new.self.cells c.mark_code.result c.in_ok-number.number (mark_code c.args.mark) (number_of ps p)
     c.mark_code.ensures.tells number c.set.ensures in
     let more = gain-required t.inclusions.cells t.exclusions.cells t.required.cells t.roles.cells ps
-    c.args.mark c.args.role c.args.kind c.set.new.self.cells c.requires t.empty set in (
-      kept (means t) _ (Required c.args.mark c.args.role c.args.kind) c.requires room
-          (ap (rule_set_of t.inclusions.cells t.exclusions.cells c.set.new.self.cells t.roles.cells) pairs ∙ more) t.proper,
-      (
-        subst (λ (qs : List Pair). Empty qs c.set.new.self.cells) (sym pairs)
-            (empty-more ps p t.required.cells c.set.new.self.cells (mark_code c.args.mark) t.empty set),
-        tt,
-      ),
-    )
+    c.args.mark c.args.role c.args.kind c.set.new.self.cells c.requires t.empty set in
+    record {
+      proper = kept (means t) _ (Required c.args.mark c.args.role c.args.kind) c.requires room
+          (ap (rule_set_of t.inclusions.cells t.exclusions.cells c.set.new.self.cells t.roles.cells) pairs ∙ more) t.proper;
+      empty = subst (λ (qs : List Pair). Empty qs c.set.new.self.cells) (sym pairs)
+          (empty-more ps p t.required.cells c.set.new.self.cells (mark_code c.args.mark) t.empty set);
+    }
 
 pub returns : goal.returns
 returns c =

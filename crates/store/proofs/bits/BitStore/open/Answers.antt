@@ -1,6 +1,6 @@
 use Rattle.std.proofs.Common.{◌≡◌, ℕ, ◌≤◌, List, length, sym, ap, ◌∙◌, subst, arith}
 use Rattle.league.specs.Facts.{count_of}
-use Rattle.store.specs.Bits.{cleared, size_of, bit_limit, names_over, marked, held_bits}
+use Rattle.store.specs.Bits.{cleared, size_of, bit_limit, marked, held_bits}
 use Rattle.store.specs.Holding.{opened}
 use Rattle.store.proofs.BitsHeld.{over-few, over-room, held-cleared, counted-cleared}
 use Rattle.store.proofs.bits.BitStore.open.Goals as goal

@@ -5,7 +5,7 @@ use Rattle.store.specs.Holding.{Holding, count, reply}
 use Rattle.store.specs.Records.{held}
 use Rattle.store.specs.Listed.{room-left, kept, held-put}
 use Rattle.store.specs.declared.records.RecordStore.{RecordStore}
-use Rattle.store.proofs.Admitted.{Admission, new-reply, after-new, was-new}
+use Rattle.store.proofs.Admitted.{new-reply, after-new, was-new}
 use Rattle.store.proofs.record_store.RecordStoreStore.enter.Goals as goal
 
 abbrev means : RecordStore → Holding
