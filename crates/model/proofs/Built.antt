@@ -1,5 +1,5 @@
 -- The tables made of a store and a rule table's consequences: they are right, and tell the canonical model.
-use Rattle.std.proofs.Common.{◌≡◌, ℕ, ◌≤◌, T, ◌↔◌, sym, subst, arith}
+use Rattle.std.proofs.Common.{◌≡◌, ◌≤◌, T, ◌↔◌, sym, subst, arith}
 use Rattle.rules.specs.Consequences.{Decides}
 use Rattle.rules.specs.Tables.{means}
 use Rattle.rules.specs.declared.consequences.Consequences.{Consequences}

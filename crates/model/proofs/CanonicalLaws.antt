@@ -1,7 +1,7 @@
 -- The canonical model is a model: its laws.
-use Rattle.std.proofs.Common.{◌≡◌, ℕ, ◌+◌, ◌-◌, ◌*◌, ◌/◌, ◌%◌, ◌<◌, ◌≤◌, Bool, true, false, T, ◌⊎◌, ◌↔◌, sym, refl, ap, ◌∙◌, subst, subst₂, inl, inr, arith}
+use Rattle.std.proofs.Common.{◌≡◌, ℕ, ◌-◌, ◌/◌, ◌<◌, ◌≤◌, Bool, T, ◌⊎◌, sym, ap, ◌∙◌, subst, subst₂, inl, inr, arith}
 use native.Mathlib.Decide.{dec_lt}
-use Rattle.league.specs.Roles.{inverse, code}
+use Rattle.league.specs.Roles.{inverse}
 use Rattle.league.specs.declared.facts.Fact.{Fact}
 use Rattle.league.specs.declared.facts.Name.{Name}
 use Rattle.league.specs.declared.roles.Role.{Role}

@@ -1,10 +1,9 @@
 -- The test for a clash tells exactly whether one stands.
-use Rattle.std.proofs.Common.{◌≡◌, ℕ, ◌+◌, ◌<◌, Bool, ◌&&◌, ◌||◌, T, ◌↔◌, sym, refl, ap, ◌∙◌, subst, subst₂, inl, inr, arith}
+use Rattle.std.proofs.Common.{ℕ, ◌<◌, Bool, ◌&&◌, T, ◌↔◌, sym, refl, subst, subst₂, inl, inr, arith}
 use Rattle.league.specs.Roles.{inverse, code}
 use Rattle.league.specs.declared.facts.Fact.{Fact}
 use Rattle.league.specs.declared.roles.Mark.{Mark}
 use Rattle.league.specs.declared.roles.Mark.TheVariants.{Is, Has}
-use Rattle.league.specs.declared.roles.Role.{Role}
 use Rattle.league.specs.declared.roles.Role.TheVariants.{Forward, Backward}
 use Rattle.league.specs.declared.rules.Rule.TheVariants.{Exclusion}
 use Rattle.rules.specs.Codes.{role_of, mark_of}

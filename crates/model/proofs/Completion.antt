@@ -1,5 +1,5 @@
 -- Right tables tell exactly the canonical model.
-use Rattle.std.proofs.Common.{◌≡◌, ℕ, zero, suc, ◌+◌, ◌-◌, ◌*◌, ◌/◌, ◌%◌, ◌<◌, ◌≤◌, Bool, true, false, cond, not, ◌&&◌, ◌||◌, T, eqb, ltb, leb, ◌⊎◌, ◌↔◌, sym, refl, ap, ◌∙◌, subst, subst₂, inl, inr, arith, le→leb, eqb→eq, ltb→lt, lt→ltb, leb→le, T_not}
+use Rattle.std.proofs.Common.{◌≡◌, ℕ, ◌+◌, ◌%◌, ◌<◌, ◌≤◌, Bool, true, false, cond, not, ◌&&◌, ◌||◌, T, eqb, ◌⊎◌, ◌↔◌, sym, refl, ap, ◌∙◌, subst, subst₂, inl, inr, arith, le→leb, eqb→eq, ltb→lt, lt→ltb, leb→le, T_not}
 use native.Mathlib.Decide.{dec_lt, ℕ_discrete}
 use lib.Dec.{eqb_refl}
 use Rattle.league.specs.Roles.{inverse, code}
@@ -12,7 +12,7 @@ use Rattle.rules.specs.RuleSet.{RuleSet, Proper}
 use Rattle.rules.specs.Codes.{role_of}
 use Rattle.rules.proofs.Coded.{role-of-code}
 use Rattle.rules.proofs.Marked.{T_true, true-T}
-use Rattle.model.specs.Canonical.{Present, Steps, By, HasMark, Joined, NamesJoined, RoleGenerates, Turns, Index, InLoop, Decided, Completes}
+use Rattle.model.specs.Canonical.{Present, Steps, By, HasMark, Joined, NamesJoined, RoleGenerates, Turns, Index, InLoop, Completes}
 use Rattle.model.specs.Elements.{Element, element_of}
 use Rattle.model.specs.Recorded.{FactsIn, Recorded, name_of, fact_of}
 use Rattle.model.specs.Tabled.{Tabled, Right, RoleRange, is_name, role_at, index_at, witness_at, present_at, generates, turns, index_after, name_steps, witness_steps, step_at, by_at, kind_at, names_at, joins_at, tabled_shape, tabled_form}

@@ -1,5 +1,5 @@
 -- The plain model is a model: it has no steps, and every recorded fact is of names.
-use Rattle.std.proofs.Common.{◌≡◌, ℕ, ◌<◌, Bool, T, ltb, refl, inl, ltb→lt, lt→ltb}
+use Rattle.std.proofs.Common.{◌≡◌, ℕ, T, ltb, refl, inl, ltb→lt, lt→ltb}
 use Rattle.league.specs.Roles.{inverse}
 use Rattle.league.specs.declared.facts.Fact.TheVariants.{Is, Joins}
 use Rattle.league.specs.declared.facts.Kind.{Kind}

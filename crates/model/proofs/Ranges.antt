@@ -1,8 +1,8 @@
 -- What follows stays among 64 kinds and 64 links; so the loops can be told from tables over those.
-use Rattle.std.proofs.Common.{◌≡◌, ℕ, zero, suc, ◌+◌, ◌*◌, ◌<◌, ◌≤◌, Bool, T, ltb, List, [], ◌∷◌, length, Some, sym, refl, ap, ◌∙◌, subst, arith, ltb→lt}
+use Rattle.std.proofs.Common.{◌≡◌, ℕ, zero, suc, ◌<◌, Bool, T, ltb, List, [], ◌∷◌, length, Some, sym, refl, ap, ◌∙◌, subst, arith, ltb→lt}
 use native.Mathlib.Decide.{dec_lt}
 use Rattle.std.specs.List.{slice_get}
-use Rattle.league.specs.Roles.{inverse, code, link_of}
+use Rattle.league.specs.Roles.{inverse, code}
 use Rattle.league.specs.declared.facts.Fact.{Fact}
 use Rattle.league.specs.declared.facts.Fact.TheVariants.{Joins}
 use Rattle.league.specs.declared.facts.Kind.{Kind}
@@ -15,7 +15,6 @@ use Rattle.league.specs.declared.roles.Role.TheVariants.{Forward, Backward}
 use Rattle.graph.specs.Paths.{Star}
 use Rattle.rules.specs.Follows.{Hides, Below, Implies, RoleEdge, MarkEdge, hidden}
 use Rattle.rules.specs.Marks.{KindIn, RoleIn, MarkIn}
-use Rattle.rules.specs.Pairs.{pair_of}
 use Rattle.rules.specs.RuleSet.{RuleSet, Proper}
 use Rattle.rules.specs.declared.pair.Pair.{Pair}
 use Rattle.rules.proofs.Coded.{code-role, role-of-code}

@@ -1,10 +1,8 @@
 -- The tables that are made of a store's facts and of consequences are right.
-use Rattle.std.proofs.Common.{◌≡◌, ℕ, ◌+◌, ◌-◌, ◌*◌, ◌<◌, ◌≤◌, Bool, true, false, not, ◌&&◌, ◌||◌, T, eqb, ltb, ◌↔◌, List, [], length, get_or, sym, refl, ap, ◌∙◌, subst, arith, eqb→eq, ltb→lt, lt→ltb, T_not}
-use native.Mathlib.Decide.{dec_lt}
+use Rattle.std.proofs.Common.{◌≡◌, ℕ, ◌+◌, ◌<◌, ◌≤◌, Bool, true, false, not, ◌&&◌, T, eqb, ltb, ◌↔◌, List, [], length, get_or, sym, ap, ◌∙◌, subst, arith, eqb→eq, ltb→lt, lt→ltb, T_not}
 use lib.Dec.{eqb_refl}
 use Rattle.graph.specs.Paths.{Star, Step, In, Reached}
-use Rattle.league.specs.Roles.{inverse, code, link_of}
-use Rattle.league.specs.declared.facts.Fact.{Fact}
+use Rattle.league.specs.Roles.{inverse, code}
 use Rattle.league.specs.declared.facts.Fact.TheVariants.{Joins}
 use Rattle.league.specs.declared.facts.Link.{Link}
 use Rattle.league.specs.declared.facts.Name.{Name}
@@ -25,11 +23,11 @@ use Rattle.model.specs.Canonical.{NameGenerates, RoleGenerates, Generating, Loop
 use Rattle.model.specs.Given.{is_given, given_at, passes_on, implied_by, starts_at, RowsOf}
 use Rattle.model.specs.Recorded.{FactsIn, Given, Recorded, NameHas, name_of, fact_of}
 use Rattle.model.specs.RoleTests.{told_generates, above_both, told_loop, told_in_loop, generates_edge, GeneratingRow}
-use Rattle.model.specs.Rows.{some_below, Filled, Stacked, flag_at, flag_in}
+use Rattle.model.specs.Rows.{Filled, Stacked, flag_at, flag_in}
 use Rattle.model.specs.LookedUp.{tabled, TablesOf}
 use Rattle.model.specs.Tabled.{RoleRange, MarkRange, Right}
 use Rattle.model.specs.declared.canonical_tables.CanonicalTables.{CanonicalTables}
-use Rattle.model.proofs.Ranges.{below_in, in-inverse, loop-in, name_in, generating-in, recorded-small, given-in}
+use Rattle.model.proofs.Ranges.{below_in, loop-in, name_in, generating-in, recorded-small, given-in}
 use Rattle.model.proofs.Roles.{code_same}
 use Rattle.model.proofs.Searches.{some-found, some_at}
 use Rattle.model.proofs.Tests.{and_both, both-and}

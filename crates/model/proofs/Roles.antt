@@ -1,5 +1,5 @@
 -- Roles in their order, and what stands below a role when both are turned.
-use Rattle.std.proofs.Common.{◌≡◌, ℕ, ◌+◌, ◌*◌, ◌<◌, ◌⊎◌, sym, refl, ap, ◌∙◌, subst, subst₂, inl, inr, arith}
+use Rattle.std.proofs.Common.{◌≡◌, ◌+◌, ◌<◌, ◌⊎◌, sym, ap, subst, subst₂, inl, inr, arith}
 use native.Mathlib.Decide.{ℕ_discrete, dec_lt}
 use Rattle.league.specs.Roles.{inverse, code}
 use Rattle.league.specs.declared.roles.Mark.{Mark}

@@ -1,5 +1,5 @@
 -- Tables that are made row by row.
-use Rattle.std.proofs.Common.{◌≡◌, ℕ, ◌+◌, ◌<◌, ◌≤◌, Bool, false, ◌&&◌, ltb, List, [], length, get_or, set, replicate, sym, ap, ◌∙◌, subst, subst₂, ⊎_elim, arith, length-set}
+use Rattle.std.proofs.Common.{◌≡◌, ℕ, ◌+◌, ◌<◌, Bool, false, ◌&&◌, List, [], length, get_or, set, replicate, sym, ap, ◌∙◌, subst, subst₂, ⊎_elim, arith, length-set}
 use lib.ListN.{length-replicate}
 use Rattle.std.proofs.lemmas.Bool.{cases_eq, lt-ltb}
 use Rattle.rules.specs.Codes.{role_of}

@@ -1,5 +1,5 @@
 -- Tables that are right for some facts and rules tell a model, whatever facts join its names.
-use Rattle.std.proofs.Common.{◌≡◌, ℕ, zero, suc, ◌+◌, ◌<◌, ◌≤◌, Bool, true, false, cond, ◌&&◌, ◌||◌, T, ltb, ◌⊎◌, ◌↔◌, sym, refl, ap, ◌∙◌, subst, inl, inr, arith, ltb→lt, lt→ltb}
+use Rattle.std.proofs.Common.{◌≡◌, ℕ, zero, suc, ◌+◌, ◌<◌, Bool, true, false, cond, ◌&&◌, ◌||◌, T, ◌⊎◌, ◌↔◌, sym, refl, ap, ◌∙◌, subst, inl, inr, arith, ltb→lt, lt→ltb}
 use mathlib.Core.HLevel.{×_prop, ⊥_prop}
 use mathlib.Core.Logic.{∥∥₁_elim, ∥∥₁_map}
 use native.Mathlib.Bridge.{le_prop}
@@ -9,21 +9,19 @@ use lib.Dec.{T_prop}
 use Rattle.graph.specs.Paths.{Star}
 use Rattle.league.specs.Roles.{inverse, code}
 use Rattle.league.specs.declared.facts.Fact.{Fact}
-use Rattle.league.specs.declared.facts.Kind.{Kind}
 use Rattle.league.specs.declared.roles.Role.{Role}
 use Rattle.league.specs.declared.roles.Role.TheVariants.{Forward, Backward}
 use Rattle.rules.specs.Codes.{role_of}
 use Rattle.rules.proofs.Coded.{code-role, role-of-code}
 use Rattle.rules.proofs.Marked.{T_true, turn-turn}
-use Rattle.model.specs.Canonical.{Decided, Loop, InLoop}
 use Rattle.model.specs.Recorded.{name_of, fact_of}
 use Rattle.model.specs.Rows.{some_below}
 use Rattle.model.specs.Structures.{Lawful, StepsBy, BothNames, Reaches}
-use Rattle.model.specs.Tabled.{Tabled, Right, Consistent, RoleRange, is_name, present_at, name_steps, witness_steps, step_at, by_at, kind_at, name_fact, names_at, joins_at, tabled_shape, tabled_form}
+use Rattle.model.specs.Tabled.{Tabled, Consistent, is_name, present_at, name_steps, witness_steps, step_at, by_at, name_fact, names_at, joins_at, tabled_shape, tabled_form}
 use Rattle.model.proofs.CanonicalLaws.{canonical-lawful}
 use Rattle.model.proofs.Completion.{tabled-completes}
 use Rattle.model.proofs.Least.{found}
-use Rattle.model.proofs.Roles.{below-inverse, below-turned}
+use Rattle.model.proofs.Roles.{below-inverse}
 use Rattle.model.proofs.Searches.{some-found, some_at}
 use Rattle.model.proofs.Tests.{and_both, both-and, or-either, or_left, or_right, is_false, same_test}
 

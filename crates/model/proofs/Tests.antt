@@ -1,5 +1,5 @@
 -- Tests and what they tell.
-use Rattle.std.proofs.Common.{◌≡◌, ℕ, ◌<◌, Bool, true, false, ◌&&◌, ◌||◌, T, ltb, ◌⊎◌, sym, refl, subst, inl, inr, ltb→lt, lt→ltb}
+use Rattle.std.proofs.Common.{◌≡◌, Bool, true, false, ◌&&◌, ◌||◌, T, ◌⊎◌, refl, inl, inr}
 
 pub and_both : (a b : Bool) → T (a && b) → T a × T b
 and_both true b h = (tt, h)

@@ -1,6 +1,5 @@
 -- The marks that the recorded facts give a name, as a test.
 use Rattle.std.specs.Prelude.{ℕ, ◌+◌, Bool, false, not, ◌&&◌, List, slice_index_or}
-use Rattle.league.specs.declared.facts.Fact.{Fact}
 use Rattle.league.specs.declared.facts.Fact.TheVariants as fact
 use Rattle.league.specs.declared.facts.Name.{Name}
 use Rattle.league.specs.declared.roles.Mark.{Mark}

@@ -1,5 +1,5 @@
 -- The plain model of what a store holds: names and recorded facts, no rules and no steps.
-use Rattle.std.specs.Prelude.{ℕ, false, nat_lt}
+use Rattle.std.specs.Prelude.{false, nat_lt}
 use Rattle.league.specs.declared.facts.Fact.TheVariants.{Is}
 use Rattle.store.specs.Holding.{Holding}
 use Rattle.model.specs.Recorded.{name_of, fact_of}

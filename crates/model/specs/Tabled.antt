@@ -1,6 +1,6 @@
 -- The canonical model read off tables: what they tell of roles, marks and names, and what a structure that
 -- looks them up then tells of its elements.
-use Rattle.std.specs.Prelude.{◌≡◌, ℕ, ◌+◌, ◌-◌, ◌/◌, ◌%◌, ◌<◌, Bool, false, cond, not, ◌&&◌, ◌||◌, T, ◌↔◌, ◌==◌, nat_le, nat_lt}
+use Rattle.std.specs.Prelude.{ℕ, ◌+◌, ◌-◌, ◌/◌, ◌%◌, ◌<◌, Bool, false, cond, not, ◌&&◌, ◌||◌, T, ◌↔◌, ◌==◌, nat_le, nat_lt}
 use Rattle.league.specs.Roles.{inverse, code}
 use Rattle.league.specs.declared.facts.Fact.{Fact}
 use Rattle.league.specs.declared.facts.Kind.{Kind}

@@ -6,7 +6,7 @@ ghost use Rattle.model.specs.Tabled.{name_fact, names_at, tabled_shape, tabled_f
 
 use crate::canonical::CanonicalModel;
 use crate::codes::role_of;
-use crate::model::Model;
+use crate::model::Model as SteppedModel;
 use crate::recorded::fact_of;
 use crate::structure::Structure;
 use league::facts::{Kind, Name};
@@ -67,7 +67,7 @@ impl<'a, S: Store> Structure for CanonicalModel<'a, S> {
     }
 }
 
-pub impl<'a, S: Store> Model for CanonicalModel<'a, S> as CanonicalSteps {
+impl<'a, S: Store> SteppedModel for CanonicalModel<'a, S> {
     ghost form = { λ m. tabled_form (tabled m.tables) };
 
     fn names(&self) -> u16 {

@@ -1,6 +1,7 @@
 //! Structures of numbered elements, in which a question is matched, and models: structures whose elements
 //! are names or are reached from names by steps.
 #![tactic(auto)]
+
 pub mod building;
 pub mod canonical;
 pub mod canonical_model;

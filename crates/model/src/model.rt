@@ -13,7 +13,7 @@ pub trait Model: Structure {
     /// kinds, joins and presence to names and steps.
     fn names(&self) -> u16
         ensures value { result ≡ (form self.now).names }
-        ensures lawful { Lawful (shape self.now) (form self.now) };
+        ensures lawful { Lawful (Self.shape self.now) (form self.now) };
 
     /// Whether the first element steps to the second.
     fn steps(&self, from: u16, to: u16) -> bool

@@ -2,7 +2,7 @@
 ghost use Rattle.std.specs.Prelude.{◌≡◌};
 ghost use Rattle.model.specs.Plain.{plain_shape, plain_form};
 
-use crate::model::Model;
+use crate::model::Model as SteppedModel;
 use crate::recorded::fact_of;
 use crate::structure::Structure;
 use league::facts::{Fact, Kind, Name};
@@ -48,7 +48,7 @@ impl<'a, S: Store> Structure for PlainModel<'a, S> {
     }
 }
 
-pub impl<'a, S: Store> Model for PlainModel<'a, S> as PlainSteps {
+impl<'a, S: Store> SteppedModel for PlainModel<'a, S> {
     ghost form = { λ m. plain_form (S.Store.means m.store.now) };
 
     fn names(&self) -> u16 {

@@ -1,4 +1,4 @@
-use Rattle.std.proofs.Common.{sym, ◌∙◌}
+use Rattle.std.proofs.Common.{sym}
 use Rattle.model.specs.Given.{passes_on}
 use Rattle.model.proofs.Searches.{some-none, some-else, some-true}
 use Rattle.model.proofs.name_rows.is_implied.Goals as goal

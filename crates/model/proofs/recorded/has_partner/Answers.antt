@@ -1,4 +1,4 @@
-use Rattle.std.proofs.Common.{ℕ, Bool, sym, ap, ◌∙◌, arith}
+use Rattle.std.proofs.Common.{sym, ap, ◌∙◌, arith}
 use Rattle.model.specs.Recorded.{name_of, fact_of}
 use Rattle.model.proofs.Searches.{some-none, some-else, some-true}
 use Rattle.model.proofs.recorded.has_partner.Goals as goal

@@ -1,4 +1,4 @@
-use Rattle.std.proofs.Common.{sym, ◌∙◌}
+use Rattle.std.proofs.Common.{sym}
 use Rattle.model.specs.RoleTests.{above_both}
 use Rattle.model.proofs.Searches.{some-none, some-else, some-true}
 use Rattle.model.proofs.role_tests.meets_above.Goals as goal

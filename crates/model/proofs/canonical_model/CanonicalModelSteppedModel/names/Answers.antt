@@ -1,7 +1,7 @@
 use Rattle.std.proofs.Common.{refl}
 use Rattle.model.specs.LookedUp.{tabled}
 use Rattle.model.proofs.TabledLaws.{tabled-lawful}
-use Rattle.model.proofs.canonical_model.CanonicalSteps.names.Goals as goal
+use Rattle.model.proofs.canonical_model.CanonicalModelSteppedModel.names.Goals as goal
 
 pub returns : goal.returns
 returns g c =
