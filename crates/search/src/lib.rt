@@ -1,6 +1,7 @@
 //! Matches of a question in a model: all of them, in order; and which of them are the ends of a match in the
 //! unravelled model.
 #![tactic(auto)]
+
 pub mod agreeing;
 pub mod filter;
 pub mod finder;
