@@ -33,28 +33,28 @@ impl<S: Store> Register<S> {
 
     /// How many names there are.
     pub fn names(&self) -> u16
-        ensures { result ≡ (means self.now.store).names }
+        ensures { result ≡ (S.means self.now.store).names }
     {
         self.store.names()
     }
 
     /// How many facts the register may hold.
     pub fn limit(&self) -> u32
-        ensures { result ≡ (means self.now.store).limit }
+        ensures { result ≡ (S.means self.now.store).limit }
     {
         self.store.limit()
     }
 
     /// How many facts it holds.
     pub fn count(&self) -> u32
-        ensures { result ≡ counted (means self.now.store) }
+        ensures { result ≡ counted (S.means self.now.store) }
     {
         self.store.count()
     }
 
     /// Whether it holds the fact.
     pub fn has(&self, fact: Fact) -> bool
-        ensures { result ≡ (means self.now.store).facts fact }
+        ensures { result ≡ (S.means self.now.store).facts fact }
     {
         self.store.has(fact)
     }
@@ -68,8 +68,8 @@ impl<S: Store> Register<S> {
 
     /// Enters a fact.
     pub fn enter_fact(&mut self, fact: Fact) -> Result<Entry, BookFault>
-        ensures replies { result ≡ fact_reply (accepted (means self.old.store) (rule_set self.old.rules)) fact }
-        ensures holds { accepted (means self.new.store) (rule_set self.new.rules) ≡ fact_after (accepted (means self.old.store) (rule_set self.old.rules)) fact }
+        ensures replies { result ≡ fact_reply (accepted (S.means self.old.store) (rule_set self.old.rules)) fact }
+        ensures holds { accepted (S.means self.new.store) (rule_set self.new.rules) ≡ fact_after (accepted (S.means self.old.store) (rule_set self.old.rules)) fact }
     {
         let entry = self.store.enter(fact)?;
         Ok(entry)
@@ -77,16 +77,16 @@ impl<S: Store> Register<S> {
 
     /// Enters a rule.
     pub fn enter_rule(&mut self, rule: Rule) -> Result<Entry, BookFault>
-        ensures replies { result ≡ rule_replied (accepted (means self.old.store) (rule_set self.old.rules)) rule }
-        ensures holds { accepted (means self.new.store) (rule_set self.new.rules) ≡ rule_entered (accepted (means self.old.store) (rule_set self.old.rules)) rule }
+        ensures replies { result ≡ rule_replied (accepted (S.means self.old.store) (rule_set self.old.rules)) rule }
+        ensures holds { accepted (S.means self.new.store) (rule_set self.new.rules) ≡ rule_entered (accepted (S.means self.old.store) (rule_set self.old.rules)) rule }
     {
         self.rules.enter(rule)
     }
 
     /// Carries out a call.
     pub fn enter(&mut self, call: Call) -> Result<Entry, BookFault>
-        ensures replies { result ≡ reply_to (accepted (means self.old.store) (rule_set self.old.rules)) call }
-        ensures holds { accepted (means self.new.store) (rule_set self.new.rules) ≡ next (accepted (means self.old.store) (rule_set self.old.rules)) call }
+        ensures replies { result ≡ reply_to (accepted (S.means self.old.store) (rule_set self.old.rules)) call }
+        ensures holds { accepted (S.means self.new.store) (rule_set self.new.rules) ≡ next (accepted (S.means self.old.store) (rule_set self.old.rules)) call }
     {
         match call {
             Call::EnterFact(fact) => self.enter_fact(fact),

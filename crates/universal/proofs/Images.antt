@@ -22,7 +22,7 @@ use Rattle.model.proofs.Numbers.{element-name}
 use Rattle.model.proofs.Tests.{and_both}
 use Rattle.search.proofs.Joining.{View, view, bare_parts, extends-parts}
 use Rattle.universal.specs.Universal.{Models, UnravelledMaps}
-use Rattle.universal.proofs.Hidden.{flip, unflip, extended, seen, below-joins, facts-join, name-marks, grow}
+use Rattle.universal.proofs.HiddenLinks.{flip, unflip, extended, seen, below-joins, facts-join, name-marks, grow}
 use Rattle.universal.proofs.PathMarks.{laws, step-at, step-has, recorded, stepped, marks-have}
 
 -- a thing where the test passes

@@ -1,5 +1,5 @@
 pub mod Fitting
-pub mod Hidden
+pub mod HiddenLinks
 pub mod Images
 pub mod Partners
 pub mod PathMarks

@@ -14,7 +14,7 @@ use Rattle.search.specs.Matches.{KeptRow, RowBelow}
 use Rattle.search.proofs.Kept.{kept-rows-hold}
 use Rattle.universal.specs.Universal.{Certain, Models, CertainIsKept, NoneFitsIsClash}
 use Rattle.universal.proofs.Fitting.{unravelled-fits}
-use Rattle.universal.proofs.Hidden.{clash-fits-none}
+use Rattle.universal.proofs.HiddenLinks.{clash-fits-none}
 use Rattle.universal.proofs.Images.{to, to-name, true-to}
 use Rattle.universal.proofs.PathMarks.{laws}
 

@@ -1,5 +1,5 @@
 use Rattle.universal.proofs.Fitting.{unravelled-fits}
-use Rattle.universal.proofs.Hidden.{clash-fits-none}
+use Rattle.universal.proofs.HiddenLinks.{clash-fits-none}
 use Rattle.universal.proofs.Images.{unravelled-maps}
 use Rattle.universal.proofs.PathMarks.{marks-follow}
 use Rattle.universal.proofs.Whole.{certain-is-kept, none-fits-is-clash}
