@@ -1,5 +1,5 @@
 -- What the reading of some fields tells of them, and how that is put together field by field.
-use Rattle.std.proofs.Common.{◌≡◌, ℕ, suc, ◌+◌, ◌-◌, List, [], ◌∷◌, length, take, Some, None, Ok, Err, Option, Result, sym, refl, ap, ◌∙◌, subst, arith}
+use Rattle.std.proofs.Common.{◌≡◌, ℕ, suc, ◌+◌, List, [], ◌∷◌, length, take, Some, None, Ok, Err, Option, Result, sym, refl, ap, ◌∙◌, subst, arith}
 use Rattle.text.specs.declared.faults.Unreadable.{Unreadable}
 use Rattle.text.specs.Lines.{Bytes}
 use Rattle.text.specs.Tokens.{got, said, or_unreadable, others, at_end}

@@ -1,5 +1,5 @@
 -- What is printed of a line.
-use Rattle.std.specs.Prelude.{ℕ, ◌+◌, List, [], ◌∷◌, ◌++◌, Ok, Err, codes, decimal, Result}
+use Rattle.std.specs.Prelude.{ℕ, ◌+◌, [], ◌∷◌, ◌++◌, Ok, Err, codes, decimal, Result}
 use Rattle.league.specs.declared.facts.Entry.{Entry}
 use Rattle.league.specs.declared.facts.Entry.TheVariants.{New, Known}
 use Rattle.league.specs.declared.faults.Place.{Place}

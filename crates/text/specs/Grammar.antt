@@ -1,14 +1,10 @@
 -- What a line means: the first letter decides its form, and each form has its fields.
-use Rattle.std.specs.Prelude.{ℕ, Bool, cond, List, [], ◌∷◌, Ok, Err, Option, Result, ◌==◌}
+use Rattle.std.specs.Prelude.{ℕ, cond, List, Ok, Err, Option, Result, ◌==◌}
 use Rattle.league.specs.declared.facts.Fact.TheVariants as fact
-use Rattle.league.specs.declared.facts.Kind.{Kind}
-use Rattle.league.specs.declared.roles.Mark.{Mark}
-use Rattle.league.specs.declared.roles.Role.{Role}
 use Rattle.league.specs.declared.rules.Rule.TheVariants as rule
 use Rattle.certain.specs.declared.calls.Call.{Call}
 use Rattle.certain.specs.declared.calls.Call.TheVariants.{EnterFact, EnterRule}
 use Rattle.text.specs.declared.faults.Unreadable.{Unreadable}
-use Rattle.text.specs.declared.forms.Letter.{Letter}
 use Rattle.text.specs.Lines.{Bytes}
 use Rattle.text.specs.Tokens.{got, others, at_end}
 use Rattle.text.specs.Forms.{numeral, letter, kind_form, role_form, mark_form}

@@ -1,5 +1,5 @@
 -- Lines of a text and fields of a line.
-use Rattle.std.specs.Prelude.{ℕ, zero, suc, Bool, true, false, cond, List, [], ◌∷◌, ◌==◌}
+use Rattle.std.specs.Prelude.{ℕ, suc, cond, List, [], ◌∷◌, ◌==◌}
 
 -- a text, a line or a field, byte by byte
 abbrev pub Bytes : Type 0

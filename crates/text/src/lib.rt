@@ -1,5 +1,6 @@
 //! Lines of text: what a line means, what is printed of each, and the run over a whole text.
 #![tactic(auto)]
+
 pub mod faults;
 pub mod fields;
 pub mod forms;

@@ -20,8 +20,8 @@ use store::records::RecordStore;
 
 /// Carries out a line on a register.
 pub fn carry_out_line<S: Store>(register: &mut Register<S>, line: &[u8]) -> Result<Entry, LineFault>
-    ensures replies { result ≡ outcome (accepted (means register.old.store) (rule_set register.old.rules)) line.now }
-    ensures holds { accepted (means register.new.store) (rule_set register.new.rules) ≡ after_line (accepted (means register.old.store) (rule_set register.old.rules)) line.now }
+    ensures replies { result ≡ outcome (accepted (S.means register.old.store) (rule_set register.old.rules)) line.now }
+    ensures holds { accepted (S.means register.new.store) (rule_set register.new.rules) ≡ after_line (accepted (S.means register.old.store) (rule_set register.old.rules)) line.now }
 {
     let call = read_line(line)?;
     let entry = register.enter(call)?;
@@ -44,7 +44,7 @@ fn split_line(text: &[u8]) -> (&[u8], &[u8])
 /// Carries out every line of a text and prints what became of each, as long as the page has room.
 fn print_lines<S: Store>(text: &[u8], register: &mut Register<S>, page: &mut OutputPage)
     ensures lent { page.new.bytes.ghost_name ≡ page.old.bytes.ghost_name }
-    ensures printed { page_of page.new.bytes.now page.new.written page.new.full ≡ put_all (page_of page.old.bytes.now page.old.written page.old.full) (outputs (accepted (means register.old.store) (rule_set register.old.rules)) 1 (lines text.now)) }
+    ensures printed { page_of page.new.bytes.now page.new.written page.new.full ≡ put_all (page_of page.old.bytes.now page.old.written page.old.full) (outputs (accepted (S.means register.old.store) (rule_set register.old.rules)) 1 (lines text.now)) }
 {
     let mut rest = text;
     let mut number = 0;

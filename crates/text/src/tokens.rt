@@ -53,7 +53,7 @@ impl<'a> Fields<'a> {
 
     /// What the next field says, where it is well formed.
     pub fn read<T: FieldForm>(&mut self) -> Result<T, Unreadable>
-        ensures { ReadField form (left self.old.more self.old.rest.now) self.old.number result (left self.new.more self.new.rest.now) self.new.number }
+        ensures { ReadField T.form (left self.old.more self.old.rest.now) self.old.number result (left self.new.more self.new.rest.now) self.new.number }
     {
         match self.next_token() {
             Token::Field(part, number) => match T::read(part) {

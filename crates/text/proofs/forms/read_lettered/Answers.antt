@@ -1,4 +1,4 @@
-use Rattle.std.proofs.Common.{◌≡◌, get_or, drop, sym, refl, ap, ◌∙◌, rules}
+use Rattle.std.proofs.Common.{get_or, ap, ◌∙◌, rules}
 use Rattle.std.proofs.lemmas.List.{take_rest}
 use Rattle.text.specs.Forms.{beside, numeral, lettered}
 use Rattle.text.proofs.forms.read_lettered.Goals as goal

@@ -1,16 +1,16 @@
-use Rattle.std.proofs.Common.{◌≡◌, sym, refl, ap, ◌∙◌, Bor, rules}
+use Rattle.std.proofs.Common.{ap, ◌∙◌, MutBor, rules}
 use Rattle.store.specs.Holding.{Holding, opened}
 use Rattle.store.specs.Records.{held, record_limit}
 use Rattle.store.specs.declared.records.RecordStore.{RecordStore}
 use Rattle.rules.specs.RuleSet.{no_rules}
 use Rattle.rules.specs.Tables.{means}
 use Rattle.text.specs.Lines.{lines}
-use Rattle.text.specs.Pages.{Page, page, fresh}
+use Rattle.text.specs.Pages.{page, fresh}
 use Rattle.text.specs.Runs.{printed}
 use Rattle.text.proofs.Pages.{filled, alike}
 use Rattle.text.proofs.runs.run.Goals as goal
 
-abbrev facts : Bor RecordStore → Holding
+abbrev facts : MutBor RecordStore → Holding
 facts r = held r.now.names r.now.records.now r.now.len
 
 pub returns : goal.returns

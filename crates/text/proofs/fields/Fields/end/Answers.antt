@@ -1,5 +1,4 @@
-use Rattle.std.proofs.Common.{◌≡◌, sym, refl, ap, ◌∙◌}
-use Rattle.text.specs.Tokens.{left, at_end}
+use Rattle.std.proofs.Common.{refl}
 use Rattle.text.proofs.Cuts.{fields-some}
 use Rattle.text.proofs.fields.Fields.end.Goals as goal
 

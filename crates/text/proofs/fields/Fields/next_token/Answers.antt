@@ -1,5 +1,5 @@
-use Rattle.std.proofs.Common.{◌≡◌, ◌<◌, ◌≤◌, [], ◌∷◌, length, sym, refl, ap, ◌∙◌, arith, length-take}
-use Rattle.text.specs.Lines.{first_at, fields}
+use Rattle.std.proofs.Common.{◌≤◌, [], ◌∷◌, length, sym, refl, ◌∙◌, arith, length-take}
+use Rattle.text.specs.Lines.{first_at}
 use Rattle.text.proofs.Cuts.{fields-empty, fields-last, cut_parts}
 use Rattle.text.proofs.fields.Fields.next_token.Goals as goal
 

@@ -1,5 +1,4 @@
-use Rattle.std.proofs.Common.{◌^◌, ◌<◌, arith, lit<}
-use Rattle.std.proofs.lemmas.Fmt.{length-decimal-le}
+use Rattle.std.proofs.Common.{arith}
 use Rattle.text.proofs.Numbers.{digits-few}
 use Rattle.text.proofs.output.OutputLine.push_number.Goals as goal
 

@@ -1,4 +1,4 @@
-use Rattle.std.proofs.Common.{◌≡◌, codes, decimal}
+use Rattle.std.proofs.Common.{codes, decimal}
 use Rattle.text.specs.Format.{line_number, layer_of, field_of}
 use Rattle.text.proofs.Numbers.{regroup}
 use Rattle.text.proofs.output.OutputLine.push_refusal.Goals as goal

@@ -1,4 +1,4 @@
-use Rattle.std.proofs.Common.{◌≡◌, sym, refl, ap, ◌∙◌, arith, length-set}
+use Rattle.std.proofs.Common.{sym, refl, ◌∙◌, arith, length-set}
 use Rattle.text.proofs.Pages.{pasted-none, pasted-more}
 use Rattle.text.proofs.page.OutputPage.put.Goals as goal
 
