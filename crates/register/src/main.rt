@@ -1,5 +1,6 @@
 //! The program `register`: lines of text from standard input, what became of each to standard output.
 #![tactic(auto)]
+
 ghost use Rattle.std.specs.Prelude.{◌≤◌, length, IfOk};
 
 use anyhow::anyhow;
