@@ -1,19 +1,21 @@
 # One word each; they only wrap rt.
-.PHONY: run test compare gate
+.PHONY: program run test compare gate
 
-# builds the program and runs it on the example
-run:
-	rt check register
-	target/bin/register < examples/league.txt
+# proves and builds the program, as crates/register/out/register
+program:
+	cd crates/register && rt run > /dev/null
+
+# runs the program on the example
+run: program
+	crates/register/out/register < examples/league.txt
 
 # proves everything that changed, runs the programs and compares what they print
 test:
-	rt check
+	rt all test
 
 # the program against an independent reading of the format
-compare:
-	rt check register
-	python3 compare/check.py target/bin/register
+compare: program
+	python3 compare/check.py crates/register/out/register
 
 # everything from nothing
 gate:
