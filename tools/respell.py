@@ -8,13 +8,11 @@ outputs of programs stay as they are. A second run changes nothing."""
 import os
 import re
 
-CAMEL = re.compile(r"(?<![A-Za-z0-9_'\\])([a-z][a-z0-9_]*(?:[A-Z][A-Za-z0-9]*)+)(?![A-Za-z0-9_])")
+CAMEL = re.compile(r"(?<![A-Za-z0-9_'\\])([a-z][a-z0-9_]*(?:(?<=[a-z0-9])[A-Z][A-Za-z0-9]*)+)(?![A-Za-z0-9_])")
 TEXT = re.compile(r'b?"(?:[^"\\]|\\.)*"')
 TOKEN = re.compile(r"(?<![A-Za-z0-9_'-])[A-Za-z][A-Za-z0-9_]*(?:-[A-Za-z0-9_]+)*'?(?![A-Za-z0-9_'-])")
 DECLARED = re.compile(r"^(\s*)((?:abbrev |unfoldable |pub |record |data )*)([^\s:(){}=;,]+)(?: \([^)]*\)| \{[^}]*\})* :(?: |$)")
 MADE = re.compile(r"^use \S+\.(?:Goals|Given)\.\{([^}]*)\}")
-# words of the library, whose spelling is not ours
-LIBRARY = {"cases_Bool", "decimal_is_IsNumeral"}
 # names of definitions of the library that begin or end a lemma's name
 DEFINED = {"length", "take", "drop", "set", "replicate", "cond", "not", "and", "or", "T", "nth"}
 # lemmas that would have the name of the word that they are about, while that is in camel case
@@ -34,7 +32,7 @@ WORDS = {
 def files():
     for folder, _, names in sorted(os.walk("crates")):
         for name in sorted(names):
-            if name.endswith((".antt", ".rt")) and "/out" not in folder:
+            if name.endswith((".antt", ".rt")) and "out" not in folder.split(os.sep):
                 yield os.path.join(folder, name)
 
 
@@ -48,10 +46,7 @@ def is_answer(path):
 
 
 def snake(match):
-    word = match.group(1)
-    if word in LIBRARY:
-        return word
-    return re.sub(r"[A-Z]+", lambda m: "_" + m.group(0).lower(), word)
+    return re.sub(r"[A-Z]+", lambda m: "_" + m.group(0).lower(), match.group(1))
 
 
 def rename(text, old, new):
@@ -118,7 +113,9 @@ class Names:
         for left, right in zip(parts, parts[1:]):
             joins = name in self.lemmas and left in self.definitions and right in self.definitions
             result += ("-" if joins else "_") + right
-        return result
+        # a dash between words that `_` has made longer is looked at again
+        sides = result.split("-")
+        return result if all(side in self.definitions for side in sides) else result.replace("-", "_")
 
     def table(self):
         turned = {}

@@ -7,15 +7,15 @@ use Rattle.std.proofs.lemmas.Bool.{cases_eq, cases_lt}
 use Rattle.graph.specs.Paths.{In, Step, Star, Reached, Tells, here, then}
 
 -- what is in a set is below its length
-pub in-below : (xs : List Bool) (k : ℕ) → In xs k → k < length xs
-in-below [] k t = absurd t
-in-below (x ∷ xs) zero t = omega arith
-in-below (x ∷ xs) (suc k) t = omega (arith, in-below xs k t)
+pub in_below : (xs : List Bool) (k : ℕ) → In xs k → k < length xs
+in_below [] k t = absurd t
+in_below (x ∷ xs) zero t = omega arith
+in_below (x ∷ xs) (suc k) t = omega (arith, in_below xs k t)
 
 -- one of two tests
-pub or-in : (x y : Bool) → T (x || y) → T x ⊎ T y
-or-in true y t = inl tt
-or-in false y t = inr t
+pub or_in : (x y : Bool) → T (x || y) → T x ⊎ T y
+or_in true y t = inl tt
+or_in false y t = inr t
 
 pub in_left : (x y : Bool) → T x → T (x || y)
 in_left true y t = tt
@@ -37,8 +37,8 @@ none_in n k t =
     (cases_lt k n)
 
 -- what is in a set with one node more
-more-in : (xs : List Bool) (i k : ℕ) → In (set xs i true) k → (k ≡ i) ⊎ In xs k
-more-in xs i k t =
+more_in : (xs : List Bool) (i k : ℕ) → In (set xs i true) k → (k ≡ i) ⊎ In xs k
+more_in xs i k t =
     ⊎_elim inl
     (λ ne. inr (same_in (get_or xs k false) (get_or (set xs i true) k false) (sym (get_or-set_other xs i k true false ne)) t))
     (cases_eq k i)
@@ -53,8 +53,8 @@ pub record Searched (edge : ℕ → ℕ → Bool) (start found finished : List B
   pub closed : (a b : ℕ) → In finished a → T (edge a b) → b < length start → In found b
 
 module _ (edge : ℕ → ℕ → Bool) (start : List Bool) where
-  pub searched-none : Searched edge start start (replicate 192 false)
-  searched-none = record {
+  pub searched_none : Searched edge start start (replicate 192 false)
+  searched_none = record {
     long = refl;
     roomy = length-replicate 192 false;
     keeps = λ k t. t;
@@ -65,9 +65,9 @@ module _ (edge : ℕ → ℕ → Bool) (start : List Bool) where
   -- one node more is finished, and its successors are added
   module _ (found finished next : List Bool) (i : ℕ) (s : Searched edge start found finished) (opened : In found i)
       (added : (k : ℕ) → k < length found → get_or next k false ≡ (get_or found k false || edge i k)) (long : length next ≡ length found) where
-    old-in : (k : ℕ) → In found k → In next k
-    old-in k t =
-        same_in (get_or next k false) (get_or found k false || edge i k) (added k (in-below found k t))
+    old_in : (k : ℕ) → In found k → In next k
+    old_in k t =
+        same_in (get_or next k false) (get_or found k false || edge i k) (added k (in_below found k t))
         (in_left (get_or found k false) (edge i k) t)
 
     new_in : (k : ℕ) → k < length start → T (edge i k) → In next k
@@ -75,25 +75,25 @@ module _ (edge : ℕ → ℕ → Bool) (start : List Bool) where
         same_in (get_or next k false) (get_or found k false || edge i k) (added k (omega (arith, s.long)))
         (in_right (get_or found k false) (edge i k) t)
 
-    reached-next : (k : ℕ) → In next k → Reached edge start k
-    reached-next k t =
-        let l : k < length found = omega (arith, in-below next k t) in
+    reached_next : (k : ℕ) → In next k → Reached edge start k
+    reached_next k t =
+        let l : k < length found = omega (arith, in_below next k t) in
         ⊎_elim
         (s.sound k)
         (λ e. let r = s.sound i opened in (r.0, (r.1.0, then r.1.1 (e, (omega (arith, s.long))))))
-        (or-in (get_or found k false) (edge i k) (same_in (get_or found k false || edge i k) (get_or next k false) (sym (added k l)) t))
+        (or_in (get_or found k false) (edge i k) (same_in (get_or found k false || edge i k) (get_or next k false) (sym (added k l)) t))
 
-    pub searched-more : Searched edge start next (set finished i true)
-    searched-more = record {
+    pub searched_more : Searched edge start next (set finished i true)
+    searched_more = record {
       long = long ∙ s.long;
       roomy = length-set finished i true ∙ s.roomy;
-      keeps = λ k t. old-in k (s.keeps k t);
-      sound = reached-next;
+      keeps = λ k t. old_in k (s.keeps k t);
+      sound = reached_next;
       closed = λ a b t e l.
           ⊎_elim
           (λ same. new_in b l (subst (λ (n : ℕ). T (edge n b)) same e))
-          (λ was. old-in b (s.closed a b was e l))
-          (more-in finished i a t);
+          (λ was. old_in b (s.closed a b was e l))
+          (more_in finished i a t);
     }
 
   -- at the end every node of the set is finished
@@ -102,30 +102,30 @@ module _ (edge : ℕ → ℕ → Bool) (start : List Bool) where
     follow here t = t
     follow (then {b = b} {c = c} p e) t = s.closed b c (all b (follow p t)) e.0 e.1
 
-    pub searched-all : (k : ℕ) → Tells (get_or found k false) (Reached edge start k)
-    searched-all k = record {
+    pub searched_all : (k : ℕ) → Tells (get_or found k false) (Reached edge start k)
+    searched_all k = record {
       sound = s.sound k;
       complete = λ r. follow r.1.1 (s.keeps r.0 r.1.0);
     }
 
 -- fewer nodes are left once one more is finished
-pub fewer-left : (finished : List Bool) (i : ℕ) → i < length finished → get_or finished i false ≡ false
+pub fewer_left : (finished : List Bool) (i : ℕ) → i < length finished → get_or finished i false ≡ false
     → count_by not (set finished i true) < count_by not finished
-fewer-left finished i l e =
+fewer_left finished i l e =
     let m : count_by not (set finished i true) + cond (not (get_or finished i false)) 1 0 ≡ count_by not finished + 0 =
     sum_by-set (λ x. cond (not x) 1 0) finished i true false l in
     let n : cond {A = ℕ} (not (get_or finished i false)) 1 0 ≡ 1 = rw e refl in
     omega arith
 
 -- what is reached from a set of one node
-pub reached-from-one : (edge : ℕ → ℕ → Bool) (n node k : ℕ) (b : Bool) → node < n
+pub reached_from_one : (edge : ℕ → ℕ → Bool) (n node k : ℕ) (b : Bool) → node < n
     → Tells b (Reached edge (set (replicate n false) node true) k) → Tells b (Star (Step edge n) node k)
-reached-from-one edge n node k b l t = record {
+reached_from_one edge n node k b l t = record {
   sound = λ h.
       let r = t.sound h in
       let p : Star (Step edge n) r.0 k = subst (λ (m : ℕ). Star (Step edge m) r.0 k) long r.1.1 in
       subst (λ (a : ℕ). Star (Step edge n) a k)
-      (⊎_elim (λ e. e) (λ none. absurd (none_in n r.0 none)) (more-in (replicate n false) node r.0 r.1.0))
+      (⊎_elim (λ e. e) (λ none. absurd (none_in n r.0 none)) (more_in (replicate n false) node r.0 r.1.0))
       p;
   complete = λ p.
       t.complete (node, (own, subst (λ (m : ℕ). Star (Step edge m) node k) (sym long) p));

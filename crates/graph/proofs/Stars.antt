@@ -3,30 +3,30 @@ use Rattle.std.proofs.Common.{◌≡◌, ◌⊎◌, sym, refl, subst, inl, inr, 
 use Rattle.graph.specs.Paths.{Star, here, then}
 
 -- a path after a path
-pub star-join : {A : Type 0} {E : A → A → Type 0} {a b c : A} → Star E a b → Star E b c → Star E a c
-star-join p here = p
-star-join p (then q e) = then (star-join p q) e
+pub star_join : {A : Type 0} {E : A → A → Type 0} {a b c : A} → Star E a b → Star E b c → Star E a c
+star_join p here = p
+star_join p (then q e) = then (star_join p q) e
 
 -- a path of equal ends
-pub star-same : {A : Type 0} {E : A → A → Type 0} {a b : A} → a ≡ b → Star E a b
-star-same {E = E} {a = a} e = subst (λ x. Star E a x) e here
+pub star_same : {A : Type 0} {E : A → A → Type 0} {a b : A} → a ≡ b → Star E a b
+star_same {E = E} {a = a} e = subst (λ x. Star E a x) e here
 
 -- a path in one graph, where each edge is a path in another
-pub star-map : {A B : Type 0} {E : A → A → Type 0} {F : B → B → Type 0} (f : A → B)
+pub star_map : {A B : Type 0} {E : A → A → Type 0} {F : B → B → Type 0} (f : A → B)
     → ((x y : A) → E x y → Star F (f x) (f y)) → {a b : A} → Star E a b → Star F (f a) (f b)
-star-map f g here = here
-star-map f g (then {b = b} {c = c} p e) = star-join (star-map f g p) (g b c e)
+star_map f g here = here
+star_map f g (then {b = b} {c = c} p e) = star_join (star_map f g p) (g b c e)
 
 -- where the ends of each edge are one or both have a property, so are or have the ends of a path
-pub star-ends : {A : Type 0} {E : A → A → Type 0} (P : A → Type 0)
+pub star_ends : {A : Type 0} {E : A → A → Type 0} (P : A → Type 0)
     → ((x y : A) → E x y → (x ≡ y) ⊎ (P x × P y)) → {a b : A} → Star E a b → (a ≡ b) ⊎ (P a × P b)
-star-ends P g here = inl refl
-star-ends P g (then {a = a} {b = b} {c = c} p e) =
+star_ends P g here = inl refl
+star_ends P g (then {a = a} {b = b} {c = c} p e) =
     ⊎_elim
-    (λ same. subst (λ x. (a ≡ x) ⊎ (P a × P x)) same (star-ends P g p))
+    (λ same. subst (λ x. (a ≡ x) ⊎ (P a × P x)) same (star_ends P g p))
     (λ both.
     ⊎_elim
     (λ same. inr (subst P (sym same) both.0, both.1))
     (λ ends. inr (ends.0, both.1))
-    (star-ends P g p))
+    (star_ends P g p))
     (g b c e)

@@ -20,32 +20,32 @@ unrefused : (b : Bool) (f : BookFault) → is_ok (refused_if b f) ≡ true → b
 unrefused true f e = sym e
 unrefused false f e = refl
 
-term-ranged : (p : ℕ) (t : Term) → is_ok (term_checked p t) ≡ true → TermRanged t
-term-ranged p (Term.Variable v) e = ltb-false 7 v (unrefused _ _ e)
-term-ranged p (Term.Name a) e = ltb-false 1023 a.0 (unrefused _ _ e)
+term_ranged : (p : ℕ) (t : Term) → is_ok (term_checked p t) ≡ true → TermRanged t
+term_ranged p (Term.Variable v) e = ltb-false 7 v (unrefused _ _ e)
+term_ranged p (Term.Name a) e = ltb-false 1023 a.0 (unrefused _ _ e)
 
-atom-ranged : (p : ℕ) (a : Atom) → is_ok (atom_checked p a) ≡ true → AtomRanged a
-atom-ranged p (Atom.Is k t) e =
-    let q = passed _ _ e in (ltb-false 63 k.0 (unrefused _ _ q.0), term-ranged (p + 1) t q.1)
-atom-ranged p (Atom.Joins R s t) e =
+atom_ranged : (p : ℕ) (a : Atom) → is_ok (atom_checked p a) ≡ true → AtomRanged a
+atom_ranged p (Atom.Is k t) e =
+    let q = passed _ _ e in (ltb-false 63 k.0 (unrefused _ _ q.0), term_ranged (p + 1) t q.1)
+atom_ranged p (Atom.Joins R s t) e =
     let q = passed _ _ e
     in let r = passed _ _ q.1
-    in (ltb-false 31 (link_of R).0 (unrefused _ _ q.0), term-ranged (p + 1) s r.0, term-ranged (p + 2) t r.1)
+    in (ltb-false 31 (link_of R).0 (unrefused _ _ q.0), term_ranged (p + 1) s r.0, term_ranged (p + 2) t r.1)
 
-all-ranged : (p : ℕ) (atoms : List Atom) → is_ok (numbers_checked p atoms) ≡ true → (a : Atom) → Among a atoms → AtomRanged a
-all-ranged p [] e a m = absurd m
-all-ranged p (b ∷ atoms) e a m =
+all_ranged : (p : ℕ) (atoms : List Atom) → is_ok (numbers_checked p atoms) ≡ true → (a : Atom) → Among a atoms → AtomRanged a
+all_ranged p [] e a m = absurd m
+all_ranged p (b ∷ atoms) e a m =
     let q = passed _ _ e
-    in ⊎_elim (λ i. subst AtomRanged (sym i) (atom-ranged p b q.0)) (all-ranged (p + arguments_of b) atoms q.1 a) m
+    in ⊎_elim (λ i. subst AtomRanged (sym i) (atom_ranged p b q.0)) (all_ranged (p + arguments_of b) atoms q.1 a) m
 
-is-variable : (v : ℕ) (t : Term) → is_variable v t ≡ true → Term.Variable v ≡ t
-is-variable v (Term.Variable u) e = ap Term.Variable (sym (eqb-true u v e))
-is-variable v (Term.Name a) e = absurd (let z : ◌≡◌ {A = ℕ} 0 1 = cc in omega arith)
+is_variable_lem : (v : ℕ) (t : Term) → is_variable v t ≡ true → Term.Variable v ≡ t
+is_variable_lem v (Term.Variable u) e = ap Term.Variable (sym (eqb-true u v e))
+is_variable_lem v (Term.Name a) e = absurd (let z : ◌≡◌ {A = ℕ} 0 1 = cc in omega arith)
 
 occurs : (v : ℕ) (a : Atom) → mentions v a ≡ true → Occurs (Term.Variable v) a
-occurs v (Atom.Is k t) e = is-variable v t e
+occurs v (Atom.Is k t) e = is_variable_lem v t e
 occurs v (Atom.Joins R s t) e =
-    ⊎_elim (λ h. inl (is-variable v s h)) (λ h. inr (is-variable v t h)) (or_cases (is_variable v s) (is_variable v t) e)
+    ⊎_elim (λ h. inl (is_variable_lem v s h)) (λ h. inr (is_variable_lem v t h)) (or_cases (is_variable v s) (is_variable v t) e)
 
 in_some : (v : ℕ) (atoms : List Atom) → mentioned v atoms ≡ true → InSome (Term.Variable v) atoms
 in_some v [] e = absurd (let z : ◌≡◌ {A = ℕ} 0 1 = cc in omega arith)
@@ -53,17 +53,17 @@ in_some v (a ∷ atoms) e =
     ⊎_elim (λ h. (a, inl refl, occurs v a h)) (λ h. let q = in_some v atoms h in (q.0, inr q.1, q.2))
     (or_cases (mentions v a) (mentioned v atoms) e)
 
-each-covered : (k : ℕ) (atoms : List Atom) → covered k atoms ≡ true → (v : ℕ) → v < k → InSome (Term.Variable v) atoms
-each-covered zero atoms e v h = absurd (omega arith)
-each-covered (suc k) atoms e v h =
+each_covered : (k : ℕ) (atoms : List Atom) → covered k atoms ≡ true → (v : ℕ) → v < k → InSome (Term.Variable v) atoms
+each_covered zero atoms e v h = absurd (omega arith)
+each_covered (suc k) atoms e v h =
     let q = and_parts (covered k atoms) (mentioned k atoms) e
-    in ⊎_elim (each-covered k atoms q.0 v)
+    in ⊎_elim (each_covered k atoms q.0 v)
     (λ l. let same : k ≡ v = omega arith in let P : ℕ → Type 0 = λ n. InSome (Term.Variable n) atoms in subst P same (in_some k atoms q.1))
     (cases_lt v k)
 
 -- what filling accepts is proper
-pub accepted-proper : (k : ℕ) (atoms : List Atom) → is_ok (filling k atoms) ≡ true → Proper k atoms
-accepted-proper k atoms e =
+pub accepted_proper : (k : ℕ) (atoms : List Atom) → is_ok (filling k atoms) ≡ true → Proper k atoms
+accepted_proper k atoms e =
     let a = passed (counts_checked k atoms) _ e
     in let b = passed (size_checked atoms) _ a.1
     in let c = passed (numbers_checked 2 atoms) _ b.1
@@ -74,9 +74,9 @@ accepted-proper k atoms e =
       few = ltb-false 4 k counts.0;
       some = omega (arith, nonempty);
       short = ltb-false 16 (length atoms) (unrefused _ _ b.0);
-      ranged = all-ranged 2 atoms c.0;
+      ranged = all_ranged 2 atoms c.0;
       narrow = ltb-false 8 (length (terms_of atoms)) (unrefused _ _ d.0);
-      answered = each-covered k atoms (not-false (covered k atoms) (unrefused _ _ d.1));
+      answered = each_covered k atoms (not-false (covered k atoms) (unrefused _ _ d.1));
     }
 
 -- a check that finds nothing passes
@@ -87,48 +87,48 @@ accepted b f e = ap (λ c. refused_if c f) e
 both_ok : (r s : Checked) → r ≡ Ok tt → s ≡ Ok tt → and_then r s ≡ Ok tt
 both_ok r s e f = ap (λ q. and_then q s) e ∙ f
 
-term-accepted : (p : ℕ) (t : Term) → TermRanged t → term_checked p t ≡ Ok tt
-term-accepted p (Term.Variable v) h = accepted _ _ (le-ltb 7 v h)
-term-accepted p (Term.Name a) h = accepted _ _ (le-ltb 1023 a.0 h)
+term_accepted : (p : ℕ) (t : Term) → TermRanged t → term_checked p t ≡ Ok tt
+term_accepted p (Term.Variable v) h = accepted _ _ (le-ltb 7 v h)
+term_accepted p (Term.Name a) h = accepted _ _ (le-ltb 1023 a.0 h)
 
-atom-accepted : (p : ℕ) (a : Atom) → AtomRanged a → atom_checked p a ≡ Ok tt
-atom-accepted p (Atom.Is k t) h = both_ok _ _ (accepted _ _ (le-ltb 63 k.0 h.0)) (term-accepted (p + 1) t h.1)
-atom-accepted p (Atom.Joins R s t) h =
+atom_accepted : (p : ℕ) (a : Atom) → AtomRanged a → atom_checked p a ≡ Ok tt
+atom_accepted p (Atom.Is k t) h = both_ok _ _ (accepted _ _ (le-ltb 63 k.0 h.0)) (term_accepted (p + 1) t h.1)
+atom_accepted p (Atom.Joins R s t) h =
     both_ok _ _ (accepted _ _ (le-ltb 31 (link_of R).0 h.0))
-    (both_ok _ _ (term-accepted (p + 1) s h.1) (term-accepted (p + 2) t h.2))
+    (both_ok _ _ (term_accepted (p + 1) s h.1) (term_accepted (p + 2) t h.2))
 
-numbers-accepted : (p : ℕ) (atoms : List Atom) → ((a : Atom) → Among a atoms → AtomRanged a) → numbers_checked p atoms ≡ Ok tt
-numbers-accepted p [] h = refl
-numbers-accepted p (a ∷ atoms) h =
-    both_ok _ _ (atom-accepted p a (h a (inl refl))) (numbers-accepted (p + arguments_of a) atoms (λ b m. h b (inr m)))
+numbers_accepted : (p : ℕ) (atoms : List Atom) → ((a : Atom) → Among a atoms → AtomRanged a) → numbers_checked p atoms ≡ Ok tt
+numbers_accepted p [] h = refl
+numbers_accepted p (a ∷ atoms) h =
+    both_ok _ _ (atom_accepted p a (h a (inl refl))) (numbers_accepted (p + arguments_of a) atoms (λ b m. h b (inr m)))
 
-variable-is : (v : ℕ) (t : Term) → Term.Variable v ≡ t → is_variable v t ≡ true
-variable-is v (Term.Variable u) e = let same : u ≡ v = cc in eq-eqb u v same
-variable-is v (Term.Name a) e = let z : ◌≡◌ {A = ℕ} 0 1 = cc in absurd (omega arith)
+variable_is : (v : ℕ) (t : Term) → Term.Variable v ≡ t → is_variable v t ≡ true
+variable_is v (Term.Variable u) e = let same : u ≡ v = cc in eq-eqb u v same
+variable_is v (Term.Name a) e = let z : ◌≡◌ {A = ℕ} 0 1 = cc in absurd (omega arith)
 
-occurs-mentions : (v : ℕ) (a : Atom) → Occurs (Term.Variable v) a → mentions v a ≡ true
-occurs-mentions v (Atom.Is k t) o = variable-is v t o
-occurs-mentions v (Atom.Joins R s t) o =
-    ⊎_elim (λ e. or_left (is_variable v s) (is_variable v t) (variable-is v s e)) (λ e. or_right (is_variable v s) (is_variable v t) (variable-is v t e)) o
+occurs_mentions : (v : ℕ) (a : Atom) → Occurs (Term.Variable v) a → mentions v a ≡ true
+occurs_mentions v (Atom.Is k t) o = variable_is v t o
+occurs_mentions v (Atom.Joins R s t) o =
+    ⊎_elim (λ e. or_left (is_variable v s) (is_variable v t) (variable_is v s e)) (λ e. or_right (is_variable v s) (is_variable v t) (variable_is v t e)) o
 
-some-mentioned : (v : ℕ) (atoms : List Atom) → InSome (Term.Variable v) atoms → mentioned v atoms ≡ true
-some-mentioned v [] o = absurd o.1
-some-mentioned v (a ∷ atoms) o =
-    ⊎_elim (λ e. or_left (mentions v a) (mentioned v atoms) (occurs-mentions v a (subst (Occurs (Term.Variable v)) e o.2)))
-    (λ m. or_right (mentions v a) (mentioned v atoms) (some-mentioned v atoms (o.0, m, o.2))) o.1
+some_mentioned : (v : ℕ) (atoms : List Atom) → InSome (Term.Variable v) atoms → mentioned v atoms ≡ true
+some_mentioned v [] o = absurd o.1
+some_mentioned v (a ∷ atoms) o =
+    ⊎_elim (λ e. or_left (mentions v a) (mentioned v atoms) (occurs_mentions v a (subst (Occurs (Term.Variable v)) e o.2)))
+    (λ m. or_right (mentions v a) (mentioned v atoms) (some_mentioned v atoms (o.0, m, o.2))) o.1
 
-all-covered : (k : ℕ) (atoms : List Atom) → ((v : ℕ) → v < k → InSome (Term.Variable v) atoms) → covered k atoms ≡ true
-all-covered zero atoms h = refl
-all-covered (suc k) atoms h =
-    and_from (covered k atoms) (mentioned k atoms) (all-covered k atoms (λ v l. h v (omega arith))) (some-mentioned k atoms (h k (omega arith)))
+all_covered : (k : ℕ) (atoms : List Atom) → ((v : ℕ) → v < k → InSome (Term.Variable v) atoms) → covered k atoms ≡ true
+all_covered zero atoms h = refl
+all_covered (suc k) atoms h =
+    and_from (covered k atoms) (mentioned k atoms) (all_covered k atoms (λ v l. h v (omega arith))) (some_mentioned k atoms (h k (omega arith)))
 
 -- filling accepts what is proper
-pub proper-accepted : (k : ℕ) (atoms : List Atom) → Proper k atoms → filling k atoms ≡ Ok tt
-proper-accepted k atoms p =
+pub proper_accepted : (k : ℕ) (atoms : List Atom) → Proper k atoms → filling k atoms ≡ Ok tt
+proper_accepted k atoms p =
     let few = le-ltb 4 k p.few
     in let some = ne_eqb (length atoms) 0 (λ e. omega (arith, p.some))
     in both_ok _ _ (accepted _ _ (or_from (ltb 4 k) (eqb (length atoms) 0) few some))
     (both_ok _ _ (accepted _ _ (le-ltb 16 (length atoms) p.short))
-    (both_ok _ _ (numbers-accepted 2 atoms p.ranged)
+    (both_ok _ _ (numbers_accepted 2 atoms p.ranged)
     (both_ok _ _ (accepted _ _ (le-ltb 8 (length (terms_of atoms)) p.narrow))
-    (accepted _ _ (not_from_true (covered k atoms) (all-covered k atoms p.answered))))))
+    (accepted _ _ (not_from_true (covered k atoms) (all_covered k atoms p.answered))))))

@@ -7,16 +7,16 @@ use Rattle.league.specs.Filling.{mentions, mentioned, covered}
 
 module _ (v : ℕ) (atoms : List Atom) (i : ℕ) (d : Atom) (h : i < length atoms) where
   -- an atom without the variable leaves the rest to say
-  pub mentioned-more : mentions v (get_or atoms i d) ≡ false → mentioned v (drop (i + 1) atoms) ≡ mentioned v (drop i atoms)
-  mentioned-more e = sym (at_drop_more (mentioned v) atoms i d h ∙ ap (λ b. b || mentioned v (drop (i + 1) atoms)) e)
+  pub mentioned_more : mentions v (get_or atoms i d) ≡ false → mentioned v (drop (i + 1) atoms) ≡ mentioned v (drop i atoms)
+  mentioned_more e = sym (at_drop_more (mentioned v) atoms i d h ∙ ap (λ b. b || mentioned v (drop (i + 1) atoms)) e)
 
   -- an atom with the variable decides
-  pub mentioned-found : mentions v (get_or atoms i d) ≡ true → mentioned v (drop i atoms) ≡ true
-  mentioned-found e = at_drop_more (mentioned v) atoms i d h ∙ ap (λ b. b || mentioned v (drop (i + 1) atoms)) e
+  pub mentioned_found : mentions v (get_or atoms i d) ≡ true → mentioned v (drop i atoms) ≡ true
+  mentioned_found e = at_drop_more (mentioned v) atoms i d h ∙ ap (λ b. b || mentioned v (drop (i + 1) atoms)) e
 
 -- no atom is left
-pub mentioned-none : (v : ℕ) (atoms : List Atom) (i : ℕ) → length atoms ≤ i → mentioned v (drop i atoms) ≡ false
-mentioned-none v atoms i h = at_drop_all (mentioned v) atoms i h
+pub mentioned_none : (v : ℕ) (atoms : List Atom) (i : ℕ) → length atoms ≤ i → mentioned v (drop i atoms) ≡ false
+mentioned_none v atoms i h = at_drop_all (mentioned v) atoms i h
 
 -- one variable more
 pub covered_more : (v : ℕ) (atoms : List Atom) → covered v atoms ≡ true → mentioned v atoms ≡ true → covered (v + 1) atoms ≡ true

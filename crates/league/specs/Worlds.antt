@@ -49,5 +49,5 @@ module _ {P : ℕ} (w : World P) where
 
 -- the world fits each of these facts and each of these rules
 pub record Fits {P : ℕ} (w : World P) (facts : Fact → Bool) (rules : Rule → Bool) : Type 0 where
-  pub each-fact : (f : Fact) → T (facts f) → FitsFact w f
-  pub each-rule : (r : Rule) → T (rules r) → FitsRule w r
+  pub each_fact : (f : Fact) → T (facts f) → FitsFact w f
+  pub each_rule : (r : Rule) → T (rules r) → FitsRule w r

@@ -9,9 +9,9 @@ use lib.Dec.{T_prop}
 Least : (ℕ → Bool) → Type 0
 Least q = (k : ℕ) × (T (q k) × ((j : ℕ) → j < k → T (q j) → ⊥))
 
-least-prop : (q : ℕ → Bool) → IsProp (Least q)
+least_prop : (q : ℕ → Bool) → IsProp (Least q)
 unfolding Least
-least-prop q x y = Σ_prop_path (λ k. ×_prop (T_prop (q k)) (Π_prop (λ j. Π_prop (λ _. Π_prop (λ _. ⊥_prop))))) same
+least_prop q x y = Σ_prop_path (λ k. ×_prop (T_prop (q k)) (Π_prop (λ j. Π_prop (λ _. Π_prop (λ _. ⊥_prop))))) same
   where
     same : x.0 ≡ y.0
     same = elim (dec_lt x.0 y.0) [
@@ -20,10 +20,10 @@ least-prop q x y = Σ_prop_path (λ k. ×_prop (T_prop (q k)) (Π_prop (λ j. Π
     ]
 
 -- among the numbers below n, or none of them
-least-below : (q : ℕ → Bool) (n : ℕ) → Least q ⊎ ((j : ℕ) → j < n → T (q j) → ⊥)
+least_below : (q : ℕ → Bool) (n : ℕ) → Least q ⊎ ((j : ℕ) → j < n → T (q j) → ⊥)
 unfolding Least
-least-below q zero = inr (λ j l. absurd (omega arith))
-least-below q (suc n) = elim (least-below q n) [
+least_below q zero = inr (λ j l. absurd (omega arith))
+least_below q (suc n) = elim (least_below q n) [
   | inl x ↦ inl x
   | inr none ↦ elim (told (q n)) [
     | inl h ↦ inl (n, (h, none))
@@ -35,9 +35,9 @@ least-below q (suc n) = elim (least-below q n) [
     told true = inl tt
     told false = inr (λ h. h)
 
-least-of : (q : ℕ → Bool) (k : ℕ) → T (q k) → Least q
-least-of q k h = elim (least-below q (suc k)) [ inl x ↦ x | inr none ↦ absurd (none k (omega arith) h) ]
+least_of : (q : ℕ → Bool) (k : ℕ) → T (q k) → Least q
+least_of q k h = elim (least_below q (suc k)) [ inl x ↦ x | inr none ↦ absurd (none k (omega arith) h) ]
 
 pub found : (q : ℕ → Bool) → ∥ ((k : ℕ) × T (q k)) ∥₁ → (k : ℕ) × T (q k)
 unfolding Least
-found q x = let l : Least q = ∥∥₁_elim x (least-prop q) (λ p. least-of q p.0 p.1) in (l.0, l.1.0)
+found q x = let l : Least q = ∥∥₁_elim x (least_prop q) (λ p. least_of q p.0 p.1) in (l.0, l.1.0)

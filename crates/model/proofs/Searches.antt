@@ -6,13 +6,13 @@ use Rattle.std.proofs.lemmas.List.{get_or-replicate, get_or-set_same, get_or-set
 use Rattle.std.proofs.lemmas.Bool.{cases_eq, cases_lt, lt-ltb, le-ltb}
 use Rattle.rules.proofs.Marked.{T_true}
 use Rattle.model.specs.Rows.{some_below, Filled}
-use Rattle.model.proofs.Tests.{or-either, or_left, or_right}
+use Rattle.model.proofs.Tests.{or_either, or_left, or_right}
 
-pub some-found : (n : ℕ) (q : ℕ → Bool) → T (some_below n q) → (c : ℕ) × (c < n) × T (q c)
+pub some_found : (n : ℕ) (q : ℕ → Bool) → T (some_below n q) → (c : ℕ) × (c < n) × T (q c)
 unfolding some_below
-some-found zero q h = absurd h
-some-found (suc n) q h = elim (or-either (some_below n q) (q n) h) [
-  | inl g ↦ let p = some-found n q g in (p.0, omega (arith, p.1), p.2)
+some_found zero q h = absurd h
+some_found (suc n) q h = elim (or_either (some_below n q) (q n) h) [
+  | inl g ↦ let p = some_found n q g in (p.0, omega (arith, p.1), p.2)
   | inr g ↦ (n, omega arith, g)
 ]
 
@@ -24,28 +24,28 @@ some_at (suc n) q c l h = elim (ℕ_discrete c n) [
   | no u ↦ or_left (some_below n q) (q n) (some_at n q c (omega arith) h)
 ]
 
-pub some-none : (q : ℕ → Bool) → some_below 0 q ≡ false
+pub some_none : (q : ℕ → Bool) → some_below 0 q ≡ false
 unfolding some_below
-some-none q = refl
+some_none q = refl
 
-some-suc : (n : ℕ) (q : ℕ → Bool) → some_below (suc n) q ≡ (some_below n q || q n)
+some_suc : (n : ℕ) (q : ℕ → Bool) → some_below (suc n) q ≡ (some_below n q || q n)
 unfolding some_below
-some-suc n q = refl
+some_suc n q = refl
 
 pub some_next : (n : ℕ) (q : ℕ → Bool) → some_below (n + 1) q ≡ (some_below n q || q n)
-some_next n q = ap (λ k. some_below k q) (omega arith) ∙ some-suc n q
+some_next n q = ap (λ k. some_below k q) (omega arith) ∙ some_suc n q
 
 -- a search that has found something
-pub some-true : (n : ℕ) (q : ℕ → Bool) (c : ℕ) → c < n → q c ≡ true → some_below n q ≡ true
-some-true n q c l e = T_true _ (some_at n q c l (subst T (sym e) tt))
+pub some_true : (n : ℕ) (q : ℕ → Bool) (c : ℕ) → c < n → q c ≡ true → some_below n q ≡ true
+some_true n q c l e = T_true _ (some_at n q c l (subst T (sym e) tt))
 
 -- a row of a length whose first n flags are filled in
 pub record Filling (size : ℕ) (row : List Bool) (n : ℕ) (q : ℕ → Bool) : Type 0 where
   pub long : length row ≡ size
   pub flags : Filled row n q
 
-pub filling-none : (size : ℕ) (q : ℕ → Bool) → Filling size (replicate size false) 0 q
-filling-none size q = record {
+pub filling_none : (size : ℕ) (q : ℕ → Bool) → Filling size (replicate size false) 0 q
+filling_none size q = record {
   long = length-replicate size false;
   flags = λ c. blank c ∙ sym (ap (λ t. t && q c) (le-ltb c 0 (omega arith)));
 }
@@ -55,8 +55,8 @@ filling-none size q = record {
         (λ l. get_or_past (replicate size false) c false (rw (length-replicate size false) l))
         (cases_lt c size)
 
-pub filling-more : (size : ℕ) (row : List Bool) (i : ℕ) (q : ℕ → Bool) (b : Bool) → Filling size row i q → i < size → b ≡ q i → Filling size (set row i b) (i + 1) q
-filling-more size row i q b f l e = record {
+pub filling_more : (size : ℕ) (row : List Bool) (i : ℕ) (q : ℕ → Bool) (b : Bool) → Filling size row i q → i < size → b ≡ q i → Filling size (set row i b) (i + 1) q
+filling_more size row i q b f l e = record {
   long = length-set row i b ∙ f.long;
   flags = λ c. ⊎_elim
       (λ same. ap (λ k. get_or (set row i b) k false) same ∙ (get_or-set_same row i b false (omega (arith, f.long)) ∙ (e ∙ (ap q (sym same) ∙ sym (ap (λ t. t && q c) (lt-ltb c (i + 1) (omega arith)))))))
@@ -67,12 +67,12 @@ filling-more size row i q b f l e = record {
     next : (c : ℕ) → (c ≡ i → ⊥) → ltb c i ≡ ltb c (i + 1)
     next c u = ⊎_elim (λ h. lt-ltb c i h ∙ sym (lt-ltb c (i + 1) (omega arith))) (λ h. le-ltb c i h ∙ sym (le-ltb c (i + 1) (omega arith))) (cases_lt c i)
 
-pub filling-end : (size : ℕ) (row : List Bool) (n k : ℕ) (q : ℕ → Bool) → Filling size row k q → k ≤ n → n ≤ k → Filled row n q
-filling-end size row n k q f l m c = f.flags c ∙ ap (λ j. ltb c j && q c) (omega arith)
+pub filling_end : (size : ℕ) (row : List Bool) (n k : ℕ) (q : ℕ → Bool) → Filling size row k q → k ≤ n → n ≤ k → Filled row n q
+filling_end size row n k q f l m c = f.flags c ∙ ap (λ j. ltb c j && q c) (omega arith)
 
 -- a search that has found nothing so far, and nothing at the next number
-pub some-else : (n : ℕ) (q : ℕ → Bool) (b : Bool) → some_below n q ≡ false → b ≡ q n → b ≡ false → some_below (n + 1) q ≡ false
-some-else n q b h e f = some_next n q ∙ (λ i. h i || (sym e ∙ f) i)
+pub some_else : (n : ℕ) (q : ℕ → Bool) (b : Bool) → some_below n q ≡ false → b ≡ q n → b ≡ false → some_below (n + 1) q ≡ false
+some_else n q b h e f = some_next n q ∙ (λ i. h i || (sym e ∙ f) i)
 
 -- nor at the end
 pub some_end : (n k : ℕ) (q : ℕ → Bool) → some_below k q ≡ false → k ≤ n → n ≤ k → false ≡ some_below n q
@@ -85,8 +85,8 @@ some_same zero p q e = refl
 some_same (suc n) p q e = λ i. some_same n p q (λ c l. e c (omega arith)) i || e n (omega arith) i
 
 -- a table with one row more
-pub row-own : (height : ℕ) (rows : List (List Bool)) (n i : ℕ) (row : List Bool) → length rows ≡ height → n < height → i ≡ n → row ≡ get_or (set rows n row) i []
-row-own height rows n i row tall l e = sym (ap (λ k. get_or (set rows n row) k []) e ∙ get_or-set_same rows n row [] (omega arith))
+pub row_own : (height : ℕ) (rows : List (List Bool)) (n i : ℕ) (row : List Bool) → length rows ≡ height → n < height → i ≡ n → row ≡ get_or (set rows n row) i []
+row_own height rows n i row tall l e = sym (ap (λ k. get_or (set rows n row) k []) e ∙ get_or-set_same rows n row [] (omega arith))
 
 pub row_other : (rows : List (List Bool)) (n i : ℕ) (row : List Bool) → (i ≡ n → ⊥) → get_or rows i [] ≡ get_or (set rows n row) i []
 row_other rows n i row u = sym (get_or-set_other rows n i row [] u)
@@ -96,18 +96,18 @@ pub record Spread (old now : List Bool) (n : ℕ) (q : ℕ → Bool) : Type 0 wh
   pub long : length now ≡ length old
   pub flags : (k : ℕ) → k < length old → get_or now k false ≡ (get_or old k false || (ltb k n && q k))
 
-or-none : (b : Bool) → b ≡ (b || false)
-or-none true = refl
-or-none false = refl
+or_none : (b : Bool) → b ≡ (b || false)
+or_none true = refl
+or_none false = refl
 
 pub spread_none : (old : List Bool) (q : ℕ → Bool) → Spread old old 0 q
 spread_none old q = record {
   long = refl;
-  flags = λ k l. or-none (get_or old k false) ∙ sym (ap (λ t. get_or old k false || (t && q k)) (le-ltb k 0 (omega arith)));
+  flags = λ k l. or_none (get_or old k false) ∙ sym (ap (λ t. get_or old k false || (t && q k)) (le-ltb k 0 (omega arith)));
 }
 
-pub spread-more : (old now : List Bool) (n : ℕ) (q : ℕ → Bool) (b : Bool) → Spread old now n q → n < length old → b ≡ (get_or now n false || q n) → Spread old (set now n b) (n + 1) q
-spread-more old now n q b s l e = record {
+pub spread_more : (old now : List Bool) (n : ℕ) (q : ℕ → Bool) (b : Bool) → Spread old now n q → n < length old → b ≡ (get_or now n false || q n) → Spread old (set now n b) (n + 1) q
+spread_more old now n q b s l e = record {
   long = length-set now n b ∙ s.long;
   flags = λ k h. ⊎_elim
       (λ same. ap (λ i. get_or (set now n b) i false) same ∙ (get_or-set_same now n b false (omega (arith, s.long)) ∙ (e ∙ (own ∙ ap (λ i. get_or old i false || (ltb i (n + 1) && q i)) (sym same)))))
@@ -116,7 +116,7 @@ spread-more old now n q b s l e = record {
 }
   where
     own : (get_or now n false || q n) ≡ (get_or old n false || (ltb n (n + 1) && q n))
-    own = ap (λ t. t || q n) (s.flags n l ∙ (ap (λ t. get_or old n false || (t && q n)) (le-ltb n n (omega arith)) ∙ sym (or-none (get_or old n false))))
+    own = ap (λ t. t || q n) (s.flags n l ∙ (ap (λ t. get_or old n false || (t && q n)) (le-ltb n n (omega arith)) ∙ sym (or_none (get_or old n false))))
         ∙ sym (ap (λ t. get_or old n false || (t && q n)) (lt-ltb n (n + 1) (omega arith)))
 
     next : (k : ℕ) → (k ≡ n → ⊥) → ltb k n ≡ ltb k (n + 1)

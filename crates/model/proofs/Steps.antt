@@ -7,18 +7,18 @@ use Rattle.league.specs.declared.roles.Role.{Role}
 use Rattle.graph.specs.Paths.{Star}
 use Rattle.rules.specs.Follows.{Below}
 use Rattle.rules.specs.RuleSet.{RuleSet}
-use Rattle.rules.proofs.Marked.{turn-turn}
+use Rattle.rules.proofs.Marked.{turn_turn}
 use Rattle.model.specs.Canonical.{Generating, Loop, InLoop, Turns, Index, RoleGenerates, Present, Steps, By, Decided}
 use Rattle.model.specs.Elements.{Element}
-use Rattle.model.proofs.Roles.{order, below-inverse, below-turned}
+use Rattle.model.proofs.Roles.{order, below-inverse, below_turned}
 
 module _ (rules : RuleSet) where
-  loop-turned : {R S : Role} → Loop rules R S → Loop rules S R
-  loop-turned {R} {S} h = (
-    λ e. h.0 (sym (turn-turn R) ∙ ap inverse (sym e)),
+  loop_turned : {R S : Role} → Loop rules R S → Loop rules S R
+  loop_turned {R} {S} h = (
+    λ e. h.0 (sym (turn_turn R) ∙ ap inverse (sym e)),
     h.2,
     h.1,
-    (inverse h.3.0, below-inverse rules h.3.2, subst (λ X. Below rules X (inverse h.3.0)) (turn-turn S) (below-inverse rules h.3.1)),
+    (inverse h.3.0, below-inverse rules h.3.2, subst (λ X. Below rules X (inverse h.3.0)) (turn_turn S) (below-inverse rules h.3.1)),
   )
 
   -- two witnesses of a loop do not step to one another
@@ -44,28 +44,28 @@ module _ (rules : RuleSet) where
     ]
 
     -- the index of a step's end
-    pub some-index : (U : Role) (i : ℕ) (S : Role) → i < 3 → (j : ℕ) × (j < 3) × Index rules U i S j
-    some-index U i S hi = elim (decided.in_loop S) [
+    pub some_index : (U : Role) (i : ℕ) (S : Role) → i < 3 → (j : ℕ) × (j < 3) × Index rules U i S j
+    some_index U i S hi = elim (decided.in_loop S) [
       | no n ↦ (0, omega arith, Index.out n refl)
       | yes l ↦ elim (turns? U S) [ yes t ↦ ((i + 1) % 3, omega arith, Index.turn t refl) | no n ↦ (i, hi, Index.keep l n refl) ]
     ]
 
 module _ (P : ℕ) (facts : Fact → Bool) (rules : RuleSet) where
-  pub no-step-back : (R : Role) (d e : Element) → Present P facts rules d → Present P facts rules e
+  pub no_step_back_lem : (R : Role) (d e : Element) → Present P facts rules d → Present P facts rules e
       → Steps P facts rules d e → By rules R e → Steps P facts rules e d → By rules (inverse R) d → ⊥
-  no-step-back R d (Element.named b) p q s h t g = s
-  no-step-back R (Element.named a) (Element.witness S j) p q s h t g = t
-  no-step-back R (Element.witness U i) (Element.witness S j) p q s h t g =
-      no_both rules U S i j p.1 q.1 (loop-turned rules l) l s.1 t.1
+  no_step_back_lem R d (Element.named b) p q s h t g = s
+  no_step_back_lem R (Element.named a) (Element.witness S j) p q s h t g = t
+  no_step_back_lem R (Element.witness U i) (Element.witness S j) p q s h t g =
+      no_both rules U S i j p.1 q.1 (loop_turned rules l) l s.1 t.1
     where
       l : Loop rules S U
-      l = (s.0.1, t.0.0, s.0.0, (R, below-turned rules g, h))
+      l = (s.0.1, t.0.0, s.0.0, (R, below_turned rules g, h))
 
   -- a step from a present element ends at a present one
-  pub step-present : (d e : Element) → Present P facts rules d → Steps P facts rules d e → Present P facts rules e
-  step-present d (Element.named b) p s = absurd s
-  step-present (Element.named a) (Element.witness S j) p s = (Generating.from_name a S s.0, omega (arith, s.1), inl s.1)
-  step-present (Element.witness U i) (Element.witness S j) p s = go s.1
+  pub step_present_lem : (d e : Element) → Present P facts rules d → Steps P facts rules d e → Present P facts rules e
+  step_present_lem d (Element.named b) p s = absurd s
+  step_present_lem (Element.named a) (Element.witness S j) p s = (Generating.from_name a S s.0, omega (arith, s.1), inl s.1)
+  step_present_lem (Element.witness U i) (Element.witness S j) p s = go s.1
     where
       l : Generating P facts rules S
       l = Generating.from_role U S p.0 s.0
@@ -100,7 +100,7 @@ module _ (P : ℕ) (facts : Fact → Bool) (rules : RuleSet) where
       S = h.0
 
       l : Loop rules S R
-      l = loop-turned rules h.1
+      l = loop_turned rules h.1
 
       there : RoleGenerates rules R S
       there = (h.1.1, l.0)
@@ -117,11 +117,11 @@ module _ (P : ℕ) (facts : Fact → Bool) (rules : RuleSet) where
     first : {R : Role} → Generating P facts rules R → FromName (Element.witness R 0)
     first (Generating.from_name a R s) = (a, s.0, Star.then Star.here (s, refl))
     first (Generating.from_role U S l h) =
-        let x = some-index rules decided U 0 S (omega arith) in
+        let x = some_index rules decided U 0 S (omega arith) in
         settle U S x.0 x.2 (go_on _ _ (first l) (h, x.2))
 
-    pub witness-reached : (R : Role) (i : ℕ) → Present P facts rules (Element.witness R i) → FromName (Element.witness R i)
-    witness-reached R zero p = first p.0
-    witness-reached R (suc zero) p = elim p.2 [ inl e ↦ absurd (omega arith) | inr l ↦ next R 0 l (first p.0) ]
-    witness-reached R (suc (suc zero)) p = elim p.2 [ inl e ↦ absurd (omega arith) | inr l ↦ next R 1 l (next R 0 l (first p.0)) ]
-    witness-reached R (suc (suc (suc i))) p = absurd (omega (arith, p.1))
+    pub witness_reached : (R : Role) (i : ℕ) → Present P facts rules (Element.witness R i) → FromName (Element.witness R i)
+    witness_reached R zero p = first p.0
+    witness_reached R (suc zero) p = elim p.2 [ inl e ↦ absurd (omega arith) | inr l ↦ next R 0 l (first p.0) ]
+    witness_reached R (suc (suc zero)) p = elim p.2 [ inl e ↦ absurd (omega arith) | inr l ↦ next R 1 l (next R 0 l (first p.0)) ]
+    witness_reached R (suc (suc (suc i))) p = absurd (omega (arith, p.1))

@@ -9,7 +9,7 @@ use Rattle.model.specs.Given.{RowsOf}
 use Rattle.model.specs.Recorded.{name_of}
 use Rattle.model.specs.RoleTests.{told_loop, told_in_loop}
 use Rattle.model.specs.Rows.{some_below, Filled, Stacked}
-use Rattle.model.proofs.Searches.{Filling, filling-none, filling-more, row-own, row_other, some_same}
+use Rattle.model.proofs.Searches.{Filling, filling_none, filling_more, row_own, row_other, some_same}
 
 -- the rows of the first n names are made
 pub record NamesMade (h : Holding) (c : Consequences) (marks starts : List (List Bool)) (n : ℕ) : Type 0 where
@@ -17,8 +17,8 @@ pub record NamesMade (h : Holding) (c : Consequences) (marks starts : List (List
   pub tall_starts : length starts ≡ 1024
   pub made : (i : ℕ) → i < n → RowsOf h c (name_of i) (get_or marks i []) (get_or starts i [])
 
-pub names-none : (h : Holding) (c : Consequences) (marks starts : List Bool) → NamesMade h c (replicate 1024 marks) (replicate 1024 starts) 0
-names-none h c marks starts = record {
+pub names_none : (h : Holding) (c : Consequences) (marks starts : List Bool) → NamesMade h c (replicate 1024 marks) (replicate 1024 starts) 0
+names_none h c marks starts = record {
   tall_marks = length-replicate 1024 marks;
   tall_starts = length-replicate 1024 starts;
   made = λ i l. absurd (omega arith);
@@ -30,7 +30,7 @@ names_more h c marks starts n row other m l q = record {
   tall_marks = length-set marks n row ∙ m.tall_marks;
   tall_starts = length-set starts n other ∙ m.tall_starts;
   made = λ i k. ⊎_elim
-      (λ e. subst₂ (RowsOf h c (name_of i)) (row-own 1024 marks n i row m.tall_marks l e) (row-own 1024 starts n i other m.tall_starts l e)
+      (λ e. subst₂ (RowsOf h c (name_of i)) (row_own 1024 marks n i row m.tall_marks l e) (row_own 1024 starts n i other m.tall_starts l e)
       (subst (λ j. RowsOf h c (name_of j) row other) (sym e) q))
       (λ u. subst₂ (RowsOf h c (name_of i)) (row_other marks n i row u) (row_other starts n i other u) (m.made i (omega arith)))
       (cases_eq i n);
@@ -42,23 +42,23 @@ pub record LoopsMade (c : Consequences) (pairs : List (List Bool)) (members : Li
   pub made : Stacked pairs n 128 (λ i j. told_loop c (role_of i) (role_of j))
   pub flags : Filling 128 members n (λ i. told_in_loop c (role_of i))
 
-pub loops-none : (c : Consequences) (row : List Bool) → LoopsMade c (replicate 128 row) (replicate 128 false) 0
-loops-none c row = record {
+pub loops_none : (c : Consequences) (row : List Bool) → LoopsMade c (replicate 128 row) (replicate 128 false) 0
+loops_none c row = record {
   tall = length-replicate 128 row;
   made = λ i l. absurd (omega arith);
-  flags = filling-none 128 _;
+  flags = filling_none 128 _;
 }
 
-pub loops-more : (c : Consequences) (pairs : List (List Bool)) (members : List Bool) (n : ℕ) (row : List Bool) (b : Bool)
+pub loops_more : (c : Consequences) (pairs : List (List Bool)) (members : List Bool) (n : ℕ) (row : List Bool) (b : Bool)
     → LoopsMade c pairs members n → n < 128 → Filled row 128 (λ j. told_loop c (role_of n) (role_of j)) → b ≡ some_below 128 (λ j. get_or row j false)
     → LoopsMade c (set pairs n row) (set members n b) (n + 1)
-loops-more c pairs members n row b m l q e = record {
+loops_more c pairs members n row b m l q e = record {
   tall = length-set pairs n row ∙ m.tall;
   made = λ i k. ⊎_elim
-      (λ s. subst (λ r. Filled r 128 (λ j. told_loop c (role_of i) (role_of j))) (row-own 128 pairs n i row m.tall l s)
+      (λ s. subst (λ r. Filled r 128 (λ j. told_loop c (role_of i) (role_of j))) (row_own 128 pairs n i row m.tall l s)
       (subst (λ x. Filled row 128 (λ j. told_loop c (role_of x) (role_of j))) (sym s) q))
       (λ u. subst (λ r. Filled r 128 (λ j. told_loop c (role_of i) (role_of j))) (row_other pairs n i row u) (m.made i (omega arith)))
       (cases_eq i n);
-  flags = filling-more 128 members n _ b m.flags l
+  flags = filling_more 128 members n _ b m.flags l
       (e ∙ some_same 128 (λ j. get_or row j false) (λ j. told_loop c (role_of n) (role_of j)) (λ j k. q j ∙ ap (λ t. t && told_loop c (role_of n) (role_of j)) (lt-ltb j 128 k)));
 }

@@ -5,13 +5,13 @@ pub and_both : (a b : Bool) → T (a && b) → T a × T b
 and_both true b h = (tt, h)
 and_both false b h = absurd h
 
-pub both-and : (a b : Bool) → T a → T b → T (a && b)
-both-and true b h g = g
-both-and false b h g = h
+pub both_and : (a b : Bool) → T a → T b → T (a && b)
+both_and true b h g = g
+both_and false b h g = h
 
-pub or-either : (a b : Bool) → T (a || b) → T a ⊎ T b
-or-either true b h = inl tt
-or-either false b h = inr h
+pub or_either : (a b : Bool) → T (a || b) → T a ⊎ T b
+or_either true b h = inl tt
+or_either false b h = inr h
 
 pub or_left : (a b : Bool) → T a → T (a || b)
 or_left true b h = tt

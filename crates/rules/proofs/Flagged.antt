@@ -12,8 +12,8 @@ replicated n i x =
     (λ l. get_or_past (replicate n x) i x (rw (length-replicate n x) l))
     (cases_lt i n)
 
-pub flag-none : (rows columns i j : ℕ) → flag (replicate rows (replicate columns false)) i j ≡ false
-flag-none rows columns i j = ⊎_elim inside outside (cases_lt i rows)
+pub flag_none : (rows columns i j : ℕ) → flag (replicate rows (replicate columns false)) i j ≡ false
+flag_none rows columns i j = ⊎_elim inside outside (cases_lt i rows)
   where
     inside : i < rows → flag (replicate rows (replicate columns false)) i j ≡ false
     inside l = ap (λ (row : List Bool). get_or row j false) (get_or-replicate rows i (replicate columns false) [] l) ∙ replicated columns j false
@@ -50,14 +50,14 @@ flag-set cells row column i j lr lc = ⊎_elim here there (cases_eq i row)
         (cases_eq j column)
 
 -- every row of a table without flags has as many columns
-pub wide-none : (rows columns i : ℕ) → i < rows → length (get_or (replicate rows (replicate columns false)) i []) ≡ columns
-wide-none rows columns i l =
+pub wide_none : (rows columns i : ℕ) → i < rows → length (get_or (replicate rows (replicate columns false)) i []) ≡ columns
+wide_none rows columns i l =
     ap length (get_or-replicate rows i (replicate columns false) [] l) ∙ length-replicate columns false
 
 -- a flag more leaves a row as long as it was
-pub wide-set : (cells : List (List Bool)) (row column i : ℕ) → row < length cells
+pub wide_set : (cells : List (List Bool)) (row column i : ℕ) → row < length cells
     → length (get_or (set cells row (set (get_or cells row []) column true)) i []) ≡ length (get_or cells i [])
-wide-set cells row column i l =
+wide_set cells row column i l =
     ⊎_elim
     (λ e.
     ap (λ (k : ℕ). length (get_or (set cells row (set (get_or cells row []) column true)) k [])) e
@@ -70,18 +70,18 @@ wide-set cells row column i l =
 pub no_row : (cells : List (List Bool)) (i j : ℕ) → length cells ≤ i → false ≡ flag cells i j
 no_row cells i j l = sym (ap (λ (row : List Bool). get_or row j false) (get_or_past cells i [] l))
 
-pub no-column : (cells : List (List Bool)) (i j : ℕ) → length (get_or cells i []) ≤ j → false ≡ flag cells i j
-no-column cells i j l = sym (get_or_past (get_or cells i []) j false l)
+pub no_column : (cells : List (List Bool)) (i j : ℕ) → length (get_or cells i []) ≤ j → false ≡ flag cells i j
+no_column cells i j l = sym (get_or_past (get_or cells i []) j false l)
 
 -- a table with the flags of one row made others
 module _ (cells : List (List Bool)) (i : ℕ) (row : List Bool) (l : i < length cells) where
-  put-own : (a : ℕ) → a ≡ i → get_or (set cells i row) a [] ≡ row
-  put-own a e = ap (λ (k : ℕ). get_or (set cells i row) k []) e ∙ get_or-set_same cells i row [] l
+  put_own : (a : ℕ) → a ≡ i → get_or (set cells i row) a [] ≡ row
+  put_own a e = ap (λ (k : ℕ). get_or (set cells i row) k []) e ∙ get_or-set_same cells i row [] l
 
-  pub wide-put : (n a : ℕ) → length row ≡ n → length (get_or cells a []) ≡ n → length (get_or (set cells i row) a []) ≡ n
-  wide-put n a long was =
+  pub wide_put : (n a : ℕ) → length row ≡ n → length (get_or cells a []) ≡ n → length (get_or (set cells i row) a []) ≡ n
+  wide_put n a long was =
       ⊎_elim
-      (λ e. ap length (put-own a e) ∙ long)
+      (λ e. ap length (put_own a e) ∙ long)
       (λ ne. ap length (get_or-set_other cells i a row [] ne) ∙ was)
       (cases_eq a i)
 
@@ -89,7 +89,7 @@ module _ (cells : List (List Bool)) (i : ℕ) (row : List Bool) (l : i < length 
   flag-put a b =
       ⊎_elim
       (λ e.
-      ap (λ (r : List Bool). get_or r b false) (put-own a e)
+      ap (λ (r : List Bool). get_or r b false) (put_own a e)
       ∙ sym (cond-true (eqb a i) (get_or row b false) (flag cells a b) (eq-eqb a i e)))
       (λ ne.
       ap (λ (r : List Bool). get_or r b false) (get_or-set_other cells i a row [] ne)

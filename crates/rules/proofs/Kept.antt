@@ -11,20 +11,20 @@ use Rattle.rules.specs.RuleSet.{RuleSet, RuleIn, Proper}
 use Rattle.rules.specs.Tables.{means}
 use Rattle.rules.specs.declared.table.RuleTable.{RuleTable}
 
-mark-prop : (B : Mark) → IsProp (MarkIn B)
-mark-prop (Is k) = le_prop
-mark-prop (Has R) = le_prop
+mark_prop : (B : Mark) → IsProp (MarkIn B)
+mark_prop (Is k) = le_prop
+mark_prop (Has R) = le_prop
 
-rule-prop : (r : Rule) → IsProp (RuleIn r)
-rule-prop (Inclusion B C) x y = λ i. (mark-prop B x.0 y.0 i, mark-prop C x.1 y.1 i)
-rule-prop (Exclusion B C) x y = λ i. (mark-prop B x.0 y.0 i, mark-prop C x.1 y.1 i)
-rule-prop (Required B R k) x y = λ i. (mark-prop B x.0 y.0 i, le_prop x.1 y.1 i, le_prop x.2 y.2 i)
-rule-prop (RoleInclusion R S) x y = λ i. (le_prop x.0 y.0 i, le_prop x.1 y.1 i)
+rule_prop : (r : Rule) → IsProp (RuleIn r)
+rule_prop (Inclusion B C) x y = λ i. (mark_prop B x.0 y.0 i, mark_prop C x.1 y.1 i)
+rule_prop (Exclusion B C) x y = λ i. (mark_prop B x.0 y.0 i, mark_prop C x.1 y.1 i)
+rule_prop (Required B R k) x y = λ i. (mark_prop B x.0 y.0 i, le_prop x.1 y.1 i, le_prop x.2 y.2 i)
+rule_prop (RoleInclusion R S) x y = λ i. (le_prop x.0 y.0 i, le_prop x.1 y.1 i)
 
-pub proper-prop : (s : RuleSet) → IsProp (Proper s)
-proper-prop s x y =
+pub proper_prop : (s : RuleSet) → IsProp (Proper s)
+proper_prop s x y =
     λ i. record {
-      rules_in = λ r t. rule-prop r (x.rules_in r t) (y.rules_in r t) i;
+      rules_in = λ r t. rule_prop r (x.rules_in r t) (y.rules_in r t) i;
       exchanged = λ B C. Coded-set coded_bool _ _ (x.exchanged B C) (y.exchanged B C) i;
       turned = λ R S. Coded-set coded_bool _ _ (x.turned R S) (y.turned R S) i;
       paired = λ B R k t. le_prop (x.paired B R k t) (y.paired B R k t) i;
@@ -34,5 +34,5 @@ proper-prop s x y =
     }
 
 -- what a rule table keeps
-pub table-proper : (t : RuleTable) → Proper (means t)
-table-proper t = ∥∥₁_elim t.proper (proper-prop (means t)) (λ p. p)
+pub table_proper : (t : RuleTable) → Proper (means t)
+table_proper t = ∥∥₁_elim t.proper (proper_prop (means t)) (λ p. p)

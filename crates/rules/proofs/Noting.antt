@@ -16,9 +16,9 @@ use Rattle.rules.specs.Noted.{noted, rule_set_of}
 use Rattle.rules.specs.Pairs.{pair_of, same_pair, number_of, has_pair, with_pair}
 use Rattle.rules.specs.RuleSet.{RuleSet, no_rules, same_rule, rule_within, has_room, gained, Proper}
 use Rattle.rules.specs.declared.pair.Pair.{Pair}
-use Rattle.rules.proofs.Gained.{same-within, or_swap, and-swap, gained-proper}
-use Rattle.rules.proofs.Marked.{role-code, mark_code_lem, same-turned}
-use Rattle.rules.proofs.Numbered.{pair-self, pair_eq, number_at, with_number, with-has, with-length, with-other, with-has-other}
+use Rattle.rules.proofs.Gained.{same-within, or_swap, and_swap, gained_proper}
+use Rattle.rules.proofs.Marked.{role_code, mark_code_lem, same_turned}
+use Rattle.rules.proofs.Numbered.{pair_self, pair_eq, number_at, with_number, with_has, with_length, with_other, with_has_other}
 
 -- no flag is set
 abbrev pub Blank : List (List Bool) → Type 0
@@ -29,15 +29,15 @@ abbrev pub More : List (List Bool) → List (List Bool) → ℕ → ℕ → Type
 More cells after row column = (i j : ℕ) → flag after i j ≡ ((eqb i row && eqb j column) || flag cells i j)
 
 -- two sets of rules with the same rules and the same pairs are one
-same-sets : (f g : Rule → Bool) (ps qs : List Pair) → ((r : Rule) → f r ≡ g r) → ps ≡ qs
+same_sets : (f g : Rule → Bool) (ps qs : List Pair) → ((r : Rule) → f r ≡ g r) → ps ≡ qs
     → ◌≡◌ {A = RuleSet} (record { rules = f; pairs = ps }) (record { rules = g; pairs = qs })
-same-sets f g ps qs h e = let k = fun_ext h in λ i. record { rules = k i; pairs = e i }
+same_sets f g ps qs h e = let k = fun_ext h in λ i. record { rules = k i; pairs = e i }
 
 -- a table without flags and pairs holds no rules
-pub noted-none : (inc exc req rol : List (List Bool)) (ps : List Pair) → Blank inc → Blank exc → Blank req → Blank rol → ps ≡ []
+pub noted_none : (inc exc req rol : List (List Bool)) (ps : List Pair) → Blank inc → Blank exc → Blank req → Blank rol → ps ≡ []
     → rule_set_of inc exc req rol ps ≡ no_rules
-noted-none inc exc req rol ps hi he hq hr e =
-    same-sets (λ r. rule_within r && noted inc exc req rol ps r) (λ _. false) ps [] none e
+noted_none inc exc req rol ps hi he hq hr e =
+    same_sets (λ r. rule_within r && noted inc exc req rol ps r) (λ _. false) ps [] none e
   where
     none : (r : Rule) → (rule_within r && noted inc exc req rol ps r) ≡ false
     none (Inclusion B C) = and_right (rule_within (Inclusion B C)) (flag inc (mark_code B) (mark_code C)) (hi (mark_code B) (mark_code C))
@@ -48,30 +48,30 @@ noted-none inc exc req rol ps hi he hq hr e =
     none (RoleInclusion R S) = and_right (rule_within (RoleInclusion R S)) (flag rol (code R) (code S)) (hr (code R) (code S))
 
 -- a rule q in range (w) whose flag was f; x: its flag is set now, s: it is the rule that is gained
-cell-more : (w x s f : Bool) → (w ≡ true → x ≡ s) → (s ≡ true → w ≡ true) → (w && (x || f)) ≡ (s || (w && f))
-cell-more true x s f h k = ap (λ (b : Bool). b || f) (h refl)
-cell-more false x true f h k = k refl
-cell-more false x false f h k = refl
+cell_more : (w x s f : Bool) → (w ≡ true → x ≡ s) → (s ≡ true → w ≡ true) → (w && (x || f)) ≡ (s || (w && f))
+cell_more true x s f h k = ap (λ (b : Bool). b || f) (h refl)
+cell_more false x true f h k = k refl
+cell_more false x false f h k = refl
 
 or_assoc : (a b c : Bool) → (a || (b || c)) ≡ ((a || b) || c)
 or_assoc true b c = refl
 or_assoc false b c = refl
 
 -- the flags at the codes that a row and a column stand for
-pub at-codes : (cells after : List (List Bool)) (row column m n : ℕ) → row ≡ m → column ≡ n → More cells after row column → More cells after m n
-at-codes cells after row column m n e f h i j = rw (e, f) at (h i j)
+pub at_codes : (cells after : List (List Bool)) (row column m n : ℕ) → row ≡ m → column ≡ n → More cells after row column → More cells after m n
+at_codes cells after row column m n e f h i j = rw (e, f) at (h i j)
 
 module _ (inc exc req rol : List (List Bool)) (ps : List Pair) where
-  pub gain-inclusion : (B C : Mark) (after : List (List Bool)) → mark_within B ≡ true → mark_within C ≡ true
+  pub gain_inclusion : (B C : Mark) (after : List (List Bool)) → mark_within B ≡ true → mark_within C ≡ true
       → More inc after (mark_code B) (mark_code C) → rule_set_of after exc req rol ps ≡ gained (rule_set_of inc exc req rol ps) (Inclusion B C)
-  gain-inclusion B C after v w h =
-      same-sets (λ r. rule_within r && noted after exc req rol ps r)
+  gain_inclusion B C after v w h =
+      same_sets (λ r. rule_within r && noted after exc req rol ps r)
       (λ r. same_rule (Inclusion B C) r || (rule_within r && noted inc exc req rol ps r)) ps ps each refl
     where
       each : (r : Rule) → (rule_within r && noted after exc req rol ps r) ≡ (same_rule (Inclusion B C) r || (rule_within r && noted inc exc req rol ps r))
       each (Inclusion D E) =
           ap (λ (b : Bool). rule_within (Inclusion D E) && b) (h (mark_code D) (mark_code E))
-          ∙ cell-more (rule_within (Inclusion D E)) (eqb (mark_code D) (mark_code B) && eqb (mark_code E) (mark_code C))
+          ∙ cell_more (rule_within (Inclusion D E)) (eqb (mark_code D) (mark_code B) && eqb (mark_code E) (mark_code C))
           (same_mark B D && same_mark C E) (flag inc (mark_code D) (mark_code E))
           (λ u.
           let p = and_parts (mark_within D) (mark_within E) u in
@@ -81,12 +81,12 @@ module _ (inc exc req rol : List (List Bool)) (ps : List Pair) where
       each (Required D S m) = refl
       each (RoleInclusion S U) = refl
 
-  pub gain-exclusion : (B C : Mark) (after : List (List Bool)) → mark_within B ≡ true → mark_within C ≡ true
+  pub gain_exclusion : (B C : Mark) (after : List (List Bool)) → mark_within B ≡ true → mark_within C ≡ true
       → ((i j : ℕ)
       → flag after i j ≡ ((eqb i (mark_code C) && eqb j (mark_code B)) || ((eqb i (mark_code B) && eqb j (mark_code C)) || flag exc i j)))
       → rule_set_of inc after req rol ps ≡ gained (rule_set_of inc exc req rol ps) (Exclusion B C)
-  gain-exclusion B C after v w h =
-      same-sets (λ r. rule_within r && noted inc after req rol ps r)
+  gain_exclusion B C after v w h =
+      same_sets (λ r. rule_within r && noted inc after req rol ps r)
       (λ r. same_rule (Exclusion B C) r || (rule_within r && noted inc exc req rol ps r)) ps ps each refl
     where
       each : (r : Rule) → (rule_within r && noted inc after req rol ps r) ≡ (same_rule (Exclusion B C) r || (rule_within r && noted inc exc req rol ps r))
@@ -98,22 +98,22 @@ module _ (inc exc req rol : List (List Bool)) (ps : List Pair) where
           let s : flag after (mark_code D) (mark_code E) ≡ ((two || one) || f) =
           h (mark_code D) (mark_code E) ∙ or_assoc two one f in
           ap (λ (b : Bool). rule_within (Exclusion D E) && b) s
-          ∙ cell-more (rule_within (Exclusion D E)) (two || one) (same_rule (Exclusion B C) (Exclusion D E)) f
+          ∙ cell_more (rule_within (Exclusion D E)) (two || one) (same_rule (Exclusion B C) (Exclusion D E)) f
           (λ u.
           let p = and_parts (mark_within D) (mark_within E) u in
           rw (mark_code_lem C D w p.0, mark_code_lem B E v p.1, mark_code_lem B D v p.0, mark_code_lem C E w p.1)
           (or_swap (same_mark C D && same_mark B E) (same_mark B D && same_mark C E)
-          ∙ ap (λ (b : Bool). (same_mark B D && same_mark C E) || b) (and-swap (same_mark C D) (same_mark B E))))
+          ∙ ap (λ (b : Bool). (same_mark B D && same_mark C E) || b) (and_swap (same_mark C D) (same_mark B E))))
           (λ e. same-within (Exclusion B C) (Exclusion D E) e (and_from (mark_within B) (mark_within C) v w))
       each (Required D S m) = refl
       each (RoleInclusion S U) = refl
 
-  pub gain-role : (Q R : Role) (after : List (List Bool)) → role_within Q ≡ true → role_within R ≡ true
+  pub gain_role : (Q R : Role) (after : List (List Bool)) → role_within Q ≡ true → role_within R ≡ true
       → ((i j : ℕ)
       → flag after i j ≡ ((eqb i (code (inverse Q)) && eqb j (code (inverse R))) || ((eqb i (code Q) && eqb j (code R)) || flag rol i j)))
       → rule_set_of inc exc req after ps ≡ gained (rule_set_of inc exc req rol ps) (RoleInclusion Q R)
-  gain-role Q R after v w h =
-      same-sets (λ r. rule_within r && noted inc exc req after ps r)
+  gain_role Q R after v w h =
+      same_sets (λ r. rule_within r && noted inc exc req after ps r)
       (λ r. same_rule (RoleInclusion Q R) r || (rule_within r && noted inc exc req rol ps r)) ps ps each refl
     where
       each : (r : Rule) → (rule_within r && noted inc exc req after ps r) ≡ (same_rule (RoleInclusion Q R) r || (rule_within r && noted inc exc req rol ps r))
@@ -127,9 +127,9 @@ module _ (inc exc req rol : List (List Bool)) (ps : List Pair) where
           let s : flag after (code S) (code U) ≡ ((two || one) || f) =
           h (code S) (code U) ∙ or_assoc two one f in
           ap (λ (b : Bool). rule_within (RoleInclusion S U) && b) s
-          ∙ cell-more (rule_within (RoleInclusion S U)) (two || one) (same_rule (RoleInclusion Q R) (RoleInclusion S U)) f
+          ∙ cell_more (rule_within (RoleInclusion S U)) (two || one) (same_rule (RoleInclusion Q R) (RoleInclusion S U)) f
           (λ u.
-          rw (role-code Q S, role-code R U, role-code (inverse Q) S, role-code (inverse R) U, same-turned Q S, same-turned R U)
+          rw (role_code Q S, role_code R U, role_code (inverse Q) S, role_code (inverse R) U, same_turned Q S, same_turned R U)
           (or_swap (same_role Q (inverse S) && same_role R (inverse U)) (same_role Q S && same_role R U)))
           (λ e. same-within (RoleInclusion Q R) (RoleInclusion S U) e (and_from (role_within Q) (role_within R) v w))
 
@@ -137,15 +137,15 @@ module _ (inc exc req rol : List (List Bool)) (ps : List Pair) where
 abbrev pub Empty : List Pair → List (List Bool) → Type 0
 Empty ps cells = (i j : ℕ) → length ps ≤ j → flag cells i j ≡ false
 
-pub empty-more : (ps : List Pair) (p : Pair) (req after : List (List Bool)) (row : ℕ) → Empty ps req → More req after row (number_of ps p) → Empty (with_pair ps p) after
-empty-more ps p req after row none h i j l =
-    let d : eqb j (number_of ps p) ≡ false = ne_eqb j (number_of ps p) (λ e. omega (arith, with-has ps p)) in
-    let f : flag req i j ≡ false = none i j (omega (arith, with-length ps p)) in
-    h i j ∙ rw (d, f) (and-false (eqb i row))
+pub empty_more : (ps : List Pair) (p : Pair) (req after : List (List Bool)) (row : ℕ) → Empty ps req → More req after row (number_of ps p) → Empty (with_pair ps p) after
+empty_more ps p req after row none h i j l =
+    let d : eqb j (number_of ps p) ≡ false = ne_eqb j (number_of ps p) (λ e. omega (arith, with_has ps p)) in
+    let f : flag req i j ≡ false = none i j (omega (arith, with_length ps p)) in
+    h i j ∙ rw (d, f) (and_false (eqb i row))
   where
-    and-false : (b : Bool) → ((b && false) || false) ≡ false
-    and-false true = refl
-    and-false false = refl
+    and_false : (b : Bool) → ((b && false) || false) ≡ false
+    and_false true = refl
+    and_false false = refl
 
 -- where a pair is not in use, its column has no flag
 guarded : (ps : List Pair) (o : Pair) (req : List (List Bool)) (i : ℕ) → Empty ps req → (has_pair ps o && flag req i (number_of ps o)) ≡ flag req i (number_of ps o)
@@ -155,31 +155,31 @@ guarded ps o req i none =
     (λ e. rw e (sym (none i (number_of ps o) (ltb-false (number_of ps o) (length ps) e))))
     (cases_Bool (has_pair ps o))
 
-and-true : (b : Bool) → (b && true) ≡ b
-and-true true = refl
-and-true false = refl
+and_true : (b : Bool) → (b && true) ≡ b
+and_true true = refl
+and_true false = refl
 
 -- the flag of a rule that asks for the pair which is gained: hp and hf are whether that pair is in use and the flag, as they are now
 -- and x whether this is the flag that was set; f is the flag as it was, and sp says that the pairs are one
-with-same : (w hp hf x s sp old f : Bool) → hp ≡ true → hf ≡ ((x && true) || f) → old ≡ f → sp ≡ true
+with_same : (w hp hf x s sp old f : Bool) → hp ≡ true → hf ≡ ((x && true) || f) → old ≡ f → sp ≡ true
     → (w ≡ true → x ≡ s) → ((s && sp) ≡ true → w ≡ true) → (w && (hp && hf)) ≡ ((s && sp) || (w && old))
-with-same w hp hf x s sp old f ep ef eo es h k =
-    let l : (hp && hf) ≡ (x || f) = rw (ep, ef, and-true x) refl in
-    let m : (s && sp) ≡ s = rw es (and-true s) in
-    let c : (w && (x || f)) ≡ (s || (w && f)) = cell-more w x s f h (λ e. k (m ∙ e)) in
+with_same w hp hf x s sp old f ep ef eo es h k =
+    let l : (hp && hf) ≡ (x || f) = rw (ep, ef, and_true x) refl in
+    let m : (s && sp) ≡ s = rw es (and_true s) in
+    let c : (w && (x || f)) ≡ (s || (w && f)) = cell_more w x s f h (λ e. k (m ∙ e)) in
     rw (l, m, eo) c
 
 -- the flag of a rule that asks for another pair
-with-another : (w hp hf x y s sp old f : Bool) → hp ≡ old → (old ≡ true → hf ≡ ((x && y) || f)) → (old ≡ true → y ≡ false) → sp ≡ false
+with_another : (w hp hf x y s sp old f : Bool) → hp ≡ old → (old ≡ true → hf ≡ ((x && y) || f)) → (old ≡ true → y ≡ false) → sp ≡ false
     → (w && (hp && hf)) ≡ ((s && sp) || (w && (old && f)))
-with-another w hp hf x y s sp true f ep ef ey es =
+with_another w hp hf x y s sp true f ep ef ey es =
     let l : hf ≡ f = ef refl ∙ rw (ey refl) (and_none x f) in
     rw (ep, l, es) (sym (and_none s (w && f)))
   where
     and_none : (a b : Bool) → ((a && false) || b) ≡ b
     and_none true b = refl
     and_none false b = refl
-with-another w hp hf x y s sp false f ep ef ey es = rw (ep, es) (both w s)
+with_another w hp hf x y s sp false f ep ef ey es = rw (ep, es) (both w s)
   where
     both : (a b : Bool) → (a && false) ≡ ((b && false) || (a && false))
     both true true = refl
@@ -196,37 +196,37 @@ module _ (inc exc req rol : List (List Bool)) (ps : List Pair) (B : Mark) (R : R
       (rule_within (Required D S m) && (has_pair (with_pair ps (pair_of R k)) (pair_of S m) && flag after (mark_code D) (number_of (with_pair ps (pair_of R k)) (pair_of S m))))
       ≡ ((same_mark B D && same_pair (pair_of R k) (pair_of S m)) || (rule_within (Required D S m) && (has_pair ps (pair_of S m) && flag req (mark_code D) (number_of ps (pair_of S m)))))
 
-  right-same : (D : Mark) (S : Role) (m : Kind) → same_pair (pair_of R k) (pair_of S m) ≡ true → Right D S m
+  right_same : (D : Mark) (S : Role) (m : Kind) → same_pair (pair_of R k) (pair_of S m) ≡ true → Right D S m
   unfolding Right
-  right-same D S m e =
+  right_same D S m e =
       let p = pair_of R k in
       let o = pair_of S m in
       let n = number_of ps p in
       let q : p ≡ o = pair_eq p o e in
       let is : number_of (with_pair ps p) o ≡ n = ap (number_of (with_pair ps p)) (sym q) ∙ with_number ps p in
       let was : number_of ps o ≡ n = ap (number_of ps) (sym q) in
-      let has : has_pair (with_pair ps p) o ≡ true = lt-ltb (number_of (with_pair ps p) o) (length (with_pair ps p)) (omega (arith, is, with-has ps p)) in
+      let has : has_pair (with_pair ps p) o ≡ true = lt-ltb (number_of (with_pair ps p) o) (length (with_pair ps p)) (omega (arith, is, with_has ps p)) in
       let set : flag after (mark_code D) (number_of (with_pair ps p) o) ≡ ((eqb (mark_code D) (mark_code B) && true) || flag req (mark_code D) n) =
       ap (flag after (mark_code D)) is ∙ (h (mark_code D) n ∙ rw (eq-eqb n n refl) refl) in
       let old : (has_pair ps o && flag req (mark_code D) (number_of ps o)) ≡ flag req (mark_code D) n =
       guarded ps o req (mark_code D) none ∙ ap (flag req (mark_code D)) was in
       let bin : mark_within B ≡ true = (and_parts (mark_within B) (role_within R && kind_within k) v).0 in
-      with-same (rule_within (Required D S m)) (has_pair (with_pair ps p) o) (flag after (mark_code D) (number_of (with_pair ps p) o))
+      with_same (rule_within (Required D S m)) (has_pair (with_pair ps p) o) (flag after (mark_code D) (number_of (with_pair ps p) o))
       (eqb (mark_code D) (mark_code B)) (same_mark B D) (same_pair p o) (has_pair ps o && flag req (mark_code D) (number_of ps o)) (flag req (mark_code D) n)
       has set old e
       (λ u. mark_code_lem B D bin (and_parts (mark_within D) (role_within S && kind_within m) u).0)
       (λ u. same-within (Required B R k) (Required D S m) u v)
 
-  right-other : (D : Mark) (S : Role) (m : Kind) → same_pair (pair_of R k) (pair_of S m) ≡ false → Right D S m
+  right_other : (D : Mark) (S : Role) (m : Kind) → same_pair (pair_of R k) (pair_of S m) ≡ false → Right D S m
   unfolding Right
-  right-other D S m e =
+  right_other D S m e =
       let p = pair_of R k in
       let o = pair_of S m in
-      with-another (rule_within (Required D S m)) (has_pair (with_pair ps p) o) (flag after (mark_code D) (number_of (with_pair ps p) o))
+      with_another (rule_within (Required D S m)) (has_pair (with_pair ps p) o) (flag after (mark_code D) (number_of (with_pair ps p) o))
       (eqb (mark_code D) (mark_code B)) (eqb (number_of ps o) (number_of ps p)) (same_mark B D) (same_pair p o) (has_pair ps o) (flag req (mark_code D) (number_of ps o))
-      (with-has-other ps p o e)
+      (with_has_other ps p o e)
       (λ t.
-      ap (flag after (mark_code D)) (with-other ps p o (ltb-true (number_of ps o) (length ps) t)) ∙ h (mark_code D) (number_of ps o))
+      ap (flag after (mark_code D)) (with_other ps p o (ltb-true (number_of ps o) (length ps) t)) ∙ h (mark_code D) (number_of ps o))
       (λ t.
       let l = ltb-true (number_of ps o) (length ps) t in
       ne_eqb (number_of ps o) (number_of ps p) (λ f. apart l f))
@@ -238,22 +238,22 @@ module _ (inc exc req rol : List (List Bool)) (ps : List Pair) (B : Mark) (R : R
           let b : slice_get ps (number_of ps (pair_of R k)) ≡ Some (pair_of R k) = number_at ps (pair_of R k) (omega (arith, f)) in
           let g : Some (pair_of R k) ≡ Some (pair_of S m) = sym b ∙ (ap (slice_get ps) (sym f) ∙ a) in
           let q : pair_of R k ≡ pair_of S m = cc in
-          let t : same_pair (pair_of R k) (pair_of S m) ≡ true = subst (λ (x : Pair). same_pair (pair_of R k) x ≡ true) q (pair-self (pair_of R k)) in
+          let t : same_pair (pair_of R k) (pair_of S m) ≡ true = subst (λ (x : Pair). same_pair (pair_of R k) x ≡ true) q (pair_self (pair_of R k)) in
           let z : ◌≡◌ {A = ℕ} 0 1 = cc in
           omega arith
 
-  pub gain-required : rule_set_of inc exc after rol (with_pair ps (pair_of R k)) ≡ gained (rule_set_of inc exc req rol ps) (Required B R k)
+  pub gain_required : rule_set_of inc exc after rol (with_pair ps (pair_of R k)) ≡ gained (rule_set_of inc exc req rol ps) (Required B R k)
   unfolding Right
-  gain-required =
-      same-sets (λ r. rule_within r && noted inc exc after rol (with_pair ps (pair_of R k)) r)
+  gain_required =
+      same_sets (λ r. rule_within r && noted inc exc after rol (with_pair ps (pair_of R k)) r)
       (λ r. same_rule (Required B R k) r || (rule_within r && noted inc exc req rol ps r)) (with_pair ps (pair_of R k)) (with_pair ps (pair_of R k)) each refl
     where
       each : (r : Rule) → (rule_within r && noted inc exc after rol (with_pair ps (pair_of R k)) r) ≡ (same_rule (Required B R k) r || (rule_within r && noted inc exc req rol ps r))
       each (Inclusion D E) = refl
       each (Exclusion D E) = refl
-      each (Required D S m) = ⊎_elim (right-same D S m) (right-other D S m) (cases_Bool (same_pair (pair_of R k) (pair_of S m)))
+      each (Required D S m) = ⊎_elim (right_same D S m) (right_other D S m) (cases_Bool (same_pair (pair_of R k) (pair_of S m)))
       each (RoleInclusion S U) = refl
 
 -- what every table keeps is kept by one that holds a rule more
 pub kept : (s t : RuleSet) (r : Rule) → rule_within r ≡ true → has_room s.pairs r ≡ true → t ≡ gained s r → ∥ Proper s ∥₁ → ∥ Proper t ∥₁
-kept s t r w room e p = ∥∥₁_map p (λ q. subst Proper (sym e) (gained-proper s r w room q))
+kept s t r w room e p = ∥∥₁_map p (λ q. subst Proper (sym e) (gained_proper s r w room q))

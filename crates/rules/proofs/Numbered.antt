@@ -8,24 +8,24 @@ use Rattle.std.proofs.lemmas.Bool.{cases_Bool, and_parts, and_from, lt-ltb, ltb-
 use Rattle.rules.specs.Marks.{same_kind, same_role}
 use Rattle.rules.specs.Pairs.{same_pair, number_of, has_pair, with_pair}
 use Rattle.rules.specs.declared.pair.Pair.{Pair}
-use Rattle.rules.proofs.Marked.{kind-self, role-self, kind-eq, role-eq}
+use Rattle.rules.proofs.Marked.{kind_self, role_self, kind_eq, role_eq}
 
-pub pair-self : (p : Pair) → same_pair p p ≡ true
-pair-self p = and_from (same_role p.role p.role) (same_kind p.kind p.kind) (role-self p.role) (kind-self p.kind)
+pub pair_self : (p : Pair) → same_pair p p ≡ true
+pair_self p = and_from (same_role p.role p.role) (same_kind p.kind p.kind) (role_self p.role) (kind_self p.kind)
 
 pub pair_eq : (p q : Pair) → same_pair p q ≡ true → p ≡ q
 pair_eq p q e =
     let w = and_parts (same_role p.role q.role) (same_kind p.kind q.kind) e in
-    let r = role-eq p.role q.role w.0 in
-    let k = kind-eq p.kind q.kind w.1 in
+    let r = role_eq p.role q.role w.0 in
+    let k = kind_eq p.kind q.kind w.1 in
     λ i. record { role = r i; kind = k i }
 
-pub number-le : (ps : List Pair) (p : Pair) → number_of ps p ≤ length ps
-number-le [] p = omega arith
-number-le (q ∷ qs) p =
+pub number_le : (ps : List Pair) (p : Pair) → number_of ps p ≤ length ps
+number_le [] p = omega arith
+number_le (q ∷ qs) p =
     ⊎_elim
     (λ e. rw e (omega arith))
-    (λ e. rw e (omega (arith, number-le qs p)))
+    (λ e. rw e (omega (arith, number_le qs p)))
     (cases_Bool (same_pair q p))
 
 -- the pair at its number
@@ -42,7 +42,7 @@ pub number_in : (ps : List Pair) (p : Pair) (i : ℕ) → slice_get ps i ≡ Som
 number_in [] p i e = let z : ◌≡◌ {A = ℕ} 0 1 = cc in omega arith
 number_in (q ∷ qs) p zero e =
     let f : q ≡ p = cc in
-    rw (f, pair-self p) (omega arith)
+    rw (f, pair_self p) (omega arith)
 number_in (q ∷ qs) p (suc i) e =
     ⊎_elim
     (λ f. rw f (omega arith))
@@ -50,34 +50,34 @@ number_in (q ∷ qs) p (suc i) e =
     (cases_Bool (same_pair q p))
 
 -- what stands in a list with one pair more stood in it before, or is that pair at the end
-pub nth-push : (ps : List Pair) (p q : Pair) (i : ℕ) → slice_get (ps ++ (p ∷ [])) i ≡ Some q → (slice_get ps i ≡ Some q) ⊎ ((i ≡ length ps) × (q ≡ p))
-nth-push [] p q zero e = inr (refl, (cc))
-nth-push [] p q (suc i) e = let z : ◌≡◌ {A = ℕ} 0 1 = cc in absurd (omega arith)
-nth-push (x ∷ xs) p q zero e = inl e
-nth-push (x ∷ xs) p q (suc i) e = ⊎_elim inl (λ h. inr (ap suc h.0, h.1)) (nth-push xs p q i e)
+pub nth_push : (ps : List Pair) (p q : Pair) (i : ℕ) → slice_get (ps ++ (p ∷ [])) i ≡ Some q → (slice_get ps i ≡ Some q) ⊎ ((i ≡ length ps) × (q ≡ p))
+nth_push [] p q zero e = inr (refl, (cc))
+nth_push [] p q (suc i) e = let z : ◌≡◌ {A = ℕ} 0 1 = cc in absurd (omega arith)
+nth_push (x ∷ xs) p q zero e = inl e
+nth_push (x ∷ xs) p q (suc i) e = ⊎_elim inl (λ h. inr (ap suc h.0, h.1)) (nth_push xs p q i e)
 
 -- one pair more at the end
 module _ (p : Pair) where
   pub number_push : (ps : List Pair) → number_of (ps ++ (p ∷ [])) p ≡ number_of ps p
-  number_push [] = rw (pair-self p) refl
+  number_push [] = rw (pair_self p) refl
   number_push (q ∷ qs) = ap (λ (n : ℕ). cond (same_pair q p) 0 (suc n)) (number_push qs)
 
-  pub number-push-in : (ps : List Pair) (o : Pair) → number_of ps o < length ps → number_of (ps ++ (p ∷ [])) o ≡ number_of ps o
-  number-push-in [] o l = omega arith
-  number-push-in (q ∷ qs) o l =
+  pub number_push_in : (ps : List Pair) (o : Pair) → number_of ps o < length ps → number_of (ps ++ (p ∷ [])) o ≡ number_of ps o
+  number_push_in [] o l = omega arith
+  number_push_in (q ∷ qs) o l =
       ⊎_elim
       (λ e. rw e refl)
-      (λ e. rw e (ap suc (number-push-in qs o (let m : suc (number_of qs o) < suc (length qs) = rw e at l in omega arith))))
+      (λ e. rw e (ap suc (number_push_in qs o (let m : suc (number_of qs o) < suc (length qs) = rw e at l in omega arith))))
       (cases_Bool (same_pair q o))
 
-  pub number-push-out : (ps : List Pair) (o : Pair) → same_pair p o ≡ false → number_of ps o ≡ length ps → number_of (ps ++ (p ∷ [])) o ≡ length ps + 1
-  number-push-out [] o d l = rw d refl
-  number-push-out (q ∷ qs) o d l =
+  pub number_push_out : (ps : List Pair) (o : Pair) → same_pair p o ≡ false → number_of ps o ≡ length ps → number_of (ps ++ (p ∷ [])) o ≡ length ps + 1
+  number_push_out [] o d l = rw d refl
+  number_push_out (q ∷ qs) o d l =
       ⊎_elim
       (λ e. let m : 0 ≡ suc (length qs) = rw e at l in omega arith)
       (λ e.
       let m : suc (number_of qs o) ≡ suc (length qs) = rw e at l in
-      let k = number-push-out qs o d (omega arith) in
+      let k = number_push_out qs o d (omega arith) in
       rw e (omega (arith, k)))
       (cases_Bool (same_pair q o))
 
@@ -90,31 +90,31 @@ module _ (ps : List Pair) (p : Pair) where
       (λ e. rw e (number_push p ps))
       (cases_Bool (has_pair ps p))
 
-  pub with-has : number_of ps p < length (with_pair ps p)
-  with-has =
+  pub with_has : number_of ps p < length (with_pair ps p)
+  with_has =
       ⊎_elim
       (λ e. rw e (ltb-true (number_of ps p) (length ps) e))
-      (λ e. rw e (omega (arith, length_push ps p, number-le ps p)))
+      (λ e. rw e (omega (arith, length_push ps p, number_le ps p)))
       (cases_Bool (has_pair ps p))
 
-  pub with-length : length ps ≤ length (with_pair ps p)
-  with-length =
+  pub with_length : length ps ≤ length (with_pair ps p)
+  with_length =
       ⊎_elim
       (λ e. rw e (omega arith))
       (λ e. rw e (omega (arith, length_push ps p)))
       (cases_Bool (has_pair ps p))
 
   -- a pair that was in use has the number it had
-  pub with-other : (o : Pair) → number_of ps o < length ps → number_of (with_pair ps p) o ≡ number_of ps o
-  with-other o l =
+  pub with_other : (o : Pair) → number_of ps o < length ps → number_of (with_pair ps p) o ≡ number_of ps o
+  with_other o l =
       ⊎_elim
       (λ e. rw e refl)
-      (λ e. rw e (number-push-in p ps o l))
+      (λ e. rw e (number_push_in p ps o l))
       (cases_Bool (has_pair ps p))
 
   -- another pair is in use exactly when it was
-  pub with-has-other : (o : Pair) → same_pair p o ≡ false → has_pair (with_pair ps p) o ≡ has_pair ps o
-  with-has-other o d =
+  pub with_has_other : (o : Pair) → same_pair p o ≡ false → has_pair (with_pair ps p) o ≡ has_pair ps o
+  with_has_other o d =
       ⊎_elim
       (λ e. rw e refl)
       (λ e.
@@ -122,11 +122,11 @@ module _ (ps : List Pair) (p : Pair) where
       (⊎_elim
       (λ f.
       let l = ltb-true (number_of ps o) (length ps) f in
-      rw (number-push-in p ps o l, length_push ps p) (lt-ltb (number_of ps o) (length ps + 1) (omega arith) ∙ sym f))
+      rw (number_push_in p ps o l, length_push ps p) (lt-ltb (number_of ps o) (length ps + 1) (omega arith) ∙ sym f))
       (λ f.
-      let l : number_of ps o ≡ length ps = omega (arith, number-le ps o, ltb-false (number_of ps o) (length ps) f) in
+      let l : number_of ps o ≡ length ps = omega (arith, number_le ps o, ltb-false (number_of ps o) (length ps) f) in
       let m : length ps + 1 ≤ length ps + 1 = omega arith in
-      rw (number-push-out p ps o d l, length_push ps p) (le-ltb (length ps + 1) (length ps + 1) m ∙ sym f))
+      rw (number_push_out p ps o d l, length_push ps p) (le-ltb (length ps + 1) (length ps + 1) m ∙ sym f))
       (cases_Bool (has_pair ps o))))
       (cases_Bool (has_pair ps p))
 
@@ -135,8 +135,8 @@ module _ (room : Bool) (n m : ℕ) (e : ◌≡◌ {A = Result ℕ BookFault} (Ok
   pub taken : room ≡ true
   taken = ⊎_elim (λ t. t) (λ f. let k : ◌≡◌ {A = Result ℕ BookFault} (Ok n) (Err NoRoom) = rw f at e in cc) (cases_Bool room)
 
-  pub taken-number : n ≡ m
-  taken-number = let k : ◌≡◌ {A = Result ℕ BookFault} (Ok n) (Ok m) = rw taken at e in cc
+  pub taken_number : n ≡ m
+  taken_number = let k : ◌≡◌ {A = Result ℕ BookFault} (Ok n) (Ok m) = rw taken at e in cc
 
-pub taken-pairs : (room : Bool) (ps qs rs : List Pair) → ps ≡ cond room qs rs → room ≡ true → ps ≡ qs
-taken-pairs room ps qs rs e t = rw t at e
+pub taken_pairs : (room : Bool) (ps qs rs : List Pair) → ps ≡ cond room qs rs → room ≡ true → ps ≡ qs
+taken_pairs room ps qs rs e t = rw t at e

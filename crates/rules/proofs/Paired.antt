@@ -11,22 +11,22 @@ use Rattle.rules.specs.Pairs.{pair_of, same_pair, number_of}
 use Rattle.rules.specs.declared.pair.Pair.{Pair}
 use Rattle.rules.specs.declared.pairs.PairList.{PairList}
 
-pub length-in-use : (t : PairList) → length (in_use t) ≡ t.count
-length-in-use t = length-take-le t.count t.places (omega (arith, t.few, t.sized))
+pub length_in_use : (t : PairList) → length (in_use t) ≡ t.count
+length_in_use t = length-take-le t.count t.places (omega (arith, t.few, t.sized))
 
 -- what `==` tells of two pairs
-pair-equals : (R S : Role) (k m : Kind) (r : Bool) → (r ≡ ghosts.eq (pair_of R k) (pair_of S m)) → r ≡ same_pair (pair_of R k) (pair_of S m)
-pair-equals (Forward l) (Forward n) k m true h = grind (arith, nat_tests)
-pair-equals (Forward l) (Forward n) k m false h = grind (arith, nat_tests)
-pair-equals (Forward l) (Backward n) k m true h = grind (arith, nat_tests)
-pair-equals (Forward l) (Backward n) k m false h = refl
-pair-equals (Backward l) (Forward n) k m true h = grind (arith, nat_tests)
-pair-equals (Backward l) (Forward n) k m false h = refl
-pair-equals (Backward l) (Backward n) k m true h = grind (arith, nat_tests)
-pair-equals (Backward l) (Backward n) k m false h = grind (arith, nat_tests)
+pair_equals : (R S : Role) (k m : Kind) (r : Bool) → (r ≡ ghosts.eq (pair_of R k) (pair_of S m)) → r ≡ same_pair (pair_of R k) (pair_of S m)
+pair_equals (Forward l) (Forward n) k m true h = grind (arith, nat_tests)
+pair_equals (Forward l) (Forward n) k m false h = grind (arith, nat_tests)
+pair_equals (Forward l) (Backward n) k m true h = grind (arith, nat_tests)
+pair_equals (Forward l) (Backward n) k m false h = refl
+pair_equals (Backward l) (Forward n) k m true h = grind (arith, nat_tests)
+pair_equals (Backward l) (Forward n) k m false h = refl
+pair_equals (Backward l) (Backward n) k m true h = grind (arith, nat_tests)
+pair_equals (Backward l) (Backward n) k m false h = grind (arith, nat_tests)
 
-pub same-from-equals : (p q : Pair) (r : Bool) → (r ≡ ghosts.eq p q) → r ≡ same_pair p q
-same-from-equals p q r h = pair-equals p.role q.role p.kind q.kind r h
+pub same_from_equals : (p q : Pair) (r : Bool) → (r ≡ ghosts.eq p q) → r ≡ same_pair p q
+same_from_equals p q r h = pair_equals p.role q.role p.kind q.kind r h
 
 -- a pair to read past the end of a list
 abbrev pub unused : Pair
@@ -41,8 +41,8 @@ module _ (ps : List Pair) (i : ℕ) (p : Pair) where
       → i + number_of (drop i ps) p ≡ (i + 1) + number_of (drop (i + 1) ps) p
   number_passed l d = number-next l ∙ rw d (omega arith)
 
-  pub number-found : i < length ps → same_pair (get_or ps i unused) p ≡ true → i + number_of (drop i ps) p ≡ i
-  number-found l d = number-next l ∙ rw d (omega arith)
+  pub number_found : i < length ps → same_pair (get_or ps i unused) p ≡ true → i + number_of (drop i ps) p ≡ i
+  number_found l d = number-next l ∙ rw d (omega arith)
 
-  pub number-none : length ps ≤ i → i ≤ length ps → i + number_of (drop i ps) p ≡ length ps
-  number-none l m = ap (λ (qs : List Pair). i + number_of qs p) (drop_all i ps l) ∙ omega arith
+  pub number_none : length ps ≤ i → i ≤ length ps → i + number_of (drop i ps) p ≡ length ps
+  number_none l m = ap (λ (qs : List Pair). i + number_of qs p) (drop_all i ps l) ∙ omega arith

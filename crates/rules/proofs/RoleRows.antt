@@ -15,8 +15,8 @@ use Rattle.rules.specs.Steps.{of_role, hidden_under, role_step}
 use Rattle.rules.specs.Tables.{means}
 use Rattle.rules.specs.declared.pair.Pair.{Pair}
 use Rattle.rules.specs.declared.table.RuleTable.{RuleTable}
-use Rattle.rules.proofs.Coded.{code-role, even-role, odd-role, link-below, role-within-code, same-role-code}
-use Rattle.rules.proofs.Marked.{same-turned}
+use Rattle.rules.proofs.Coded.{code_role, even_role, odd_role, link_below, role_within-code, same_role_code}
+use Rattle.rules.proofs.Marked.{same_turned}
 
 -- a row that begins at the first node
 pub from_first : (row : List Bool) (k : ℕ) → (leb 0 k && get_or row (k - 0) false) ≡ get_or row k false
@@ -29,65 +29,65 @@ pub or_nothing : (x y : Bool) → y ≡ false → x ≡ (x || y)
 or_nothing true y e = refl
 or_nothing false y e = sym e
 
-pub or-none : (b : Bool) → (b || false) ≡ b
-or-none true = refl
-or-none false = refl
+pub or_none : (b : Bool) → (b || false) ≡ b
+or_none true = refl
+or_none false = refl
 
 -- a role that rules may name is no hidden link
-low-hidden : (s : RuleSet) (R S : Role) → (link_of R).0 < 32 → hidden_under s R S ≡ false
-low-hidden s (Forward l) S h = and_left (leb 32 l.0) (of_role (slice_get s.pairs (l.0 - 32)) S) (lt-leb 32 l.0 h)
-low-hidden s (Backward l) S h = and_left (leb 32 l.0) (of_role (slice_get s.pairs (l.0 - 32)) (inverse S)) (lt-leb 32 l.0 h)
+low_hidden : (s : RuleSet) (R S : Role) → (link_of R).0 < 32 → hidden_under s R S ≡ false
+low_hidden s (Forward l) S h = and_left (leb 32 l.0) (of_role (slice_get s.pairs (l.0 - 32)) S) (lt-leb 32 l.0 h)
+low_hidden s (Backward l) S h = and_left (leb 32 l.0) (of_role (slice_get s.pairs (l.0 - 32)) (inverse S)) (lt-leb 32 l.0 h)
 
 module _ (t : RuleTable) (i k : ℕ) where
   -- the flag of a role inclusion by codes
-  role-rule : (means t).rules (RoleInclusion (role_of i) (role_of k)) ≡ ((ltb i 64 && ltb k 64) && flag t.roles.cells i k)
-  role-rule = rw (role-within-code i, role-within-code k, code-role i, code-role k) refl
+  role_rule : (means t).rules (RoleInclusion (role_of i) (role_of k)) ≡ ((ltb i 64 && ltb k 64) && flag t.roles.cells i k)
+  role_rule = rw (role_within-code i, role_within-code k, code_role i, code_role k) refl
 
   -- the row of a role that rules may name
-  pub role-row : i < 64 → flag t.roles.cells i k ≡ role_step (means t) i k
-  role-row l =
+  pub role_row : i < 64 → flag t.roles.cells i k ≡ role_step (means t) i k
+  role_row l =
       sym
-      (rw (role-rule, lt-ltb i 64 l, low-hidden (means t) (role_of i) (role_of k) (link-below i 32 l))
+      (rw (role_rule, lt-ltb i 64 l, low_hidden (means t) (role_of i) (role_of k) (link_below i 32 l))
       (⊎_elim
-      (λ h. rw (lt-ltb k 64 h) (or-none (flag t.roles.cells i k)))
+      (λ h. rw (lt-ltb k 64 h) (or_none (flag t.roles.cells i k)))
       (λ h.
       rw (le-ltb k 64 h)
       (sym (get_or_past (get_or t.roles.cells i []) k false (omega (arith, t.roles.wide i l)))))
       (cases_lt k 64)))
 
   -- a hidden link stands under the role of its pair, on the same side
-  hidden-row : 64 ≤ i → role_step (means t) i k ≡ hidden_under (means t) (role_of i) (role_of k)
-  hidden-row l = rw (role-rule, le-ltb i 64 l) refl
+  hidden_row : 64 ≤ i → role_step (means t) i k ≡ hidden_under (means t) (role_of i) (role_of k)
+  hidden_row l = rw (role_rule, le-ltb i 64 l) refl
 
   -- the test of a hidden link, by the pair that it stands for
-  hidden-test : 64 ≤ i → (o : Option Pair) → o ≡ slice_get (means t).pairs ((i - 64) / 2)
+  hidden_test : 64 ≤ i → (o : Option Pair) → o ≡ slice_get (means t).pairs ((i - 64) / 2)
       → hidden_under (means t) (role_of i) (role_of k) ≡ of_role o (on_side (role_of k) i)
-  hidden-test l o e =
+  hidden_test l o e =
       ⊎_elim
       (λ h.
       let z : i % 2 ≡ 0 = omega arith in
       let m : 32 ≤ i / 2 = omega arith in
       let n : i / 2 - 32 ≡ (i - 64) / 2 = omega arith in
-      ap (λ (R : Role). hidden_under (means t) R (role_of k)) (even-role i z)
+      ap (λ (R : Role). hidden_under (means t) R (role_of k)) (even_role i z)
       ∙ rw (le-leb 32 (i / 2) m, n, eq-eqb (i % 2) 0 z) (ap (λ (x : Option Pair). of_role x (role_of k)) (sym e)))
       (λ h.
       let z : i % 2 ≡ 1 = omega arith in
       let m : 32 ≤ i / 2 = omega arith in
       let n : i / 2 - 32 ≡ (i - 64) / 2 = omega arith in
-      ap (λ (R : Role). hidden_under (means t) R (role_of k)) (odd-role i z)
+      ap (λ (R : Role). hidden_under (means t) R (role_of k)) (odd_role i z)
       ∙ rw (le-leb 32 (i / 2) m, n, ne_eqb (i % 2) 0 (omega arith)) (ap (λ (x : Option Pair). of_role x (inverse (role_of k))) (sym e)))
       (cases_lt (i % 2) 1)
 
-  pub no-pair-row : 64 ≤ i → None ≡ slice_get (means t).pairs ((i - 64) / 2) → role_step (means t) i k ≡ false
-  no-pair-row l e = hidden-row l ∙ hidden-test l None e
+  pub no_pair_row : 64 ≤ i → None ≡ slice_get (means t).pairs ((i - 64) / 2) → role_step (means t) i k ≡ false
+  no_pair_row l e = hidden_row l ∙ hidden_test l None e
 
   pub pair_row : (p : Pair) → 64 ≤ i → Some p ≡ slice_get (means t).pairs ((i - 64) / 2)
       → eqb k (code (on_side p.role i)) ≡ role_step (means t) i k
-  pair_row p l e = sym (hidden-row l ∙ (hidden-test l (Some p) e ∙ (turned ∙ same-role-code (on_side p.role i) k)))
+  pair_row p l e = sym (hidden_row l ∙ (hidden_test l (Some p) e ∙ (turned ∙ same_role_code (on_side p.role i) k)))
     where
       turned : same_role p.role (on_side (role_of k) i) ≡ same_role (on_side p.role i) (role_of k)
       turned =
           ⊎_elim
           (λ h. rw (eq-eqb (i % 2) 0 (omega arith)) refl)
-          (λ h. rw (ne_eqb (i % 2) 0 (omega arith)) (sym (same-turned p.role (role_of k))))
+          (λ h. rw (ne_eqb (i % 2) 0 (omega arith)) (sym (same_turned p.role (role_of k))))
           (cases_lt (i % 2) 1)

@@ -3,13 +3,13 @@ use Rattle.std.proofs.Common.{◌≡◌, ℕ, zero, suc, ◌<◌, Bool, true, fa
 use Rattle.std.proofs.lemmas.Bool.{cases_Bool, cases_eq, both_ways}
 use Rattle.search.specs.Forcing.{flag_at, Decides}
 use Rattle.search.specs.Grounding.{Waits, Grounded}
-use Rattle.search.proofs.Forces.{flag-parts}
+use Rattle.search.proofs.Forces.{flag_parts}
 
 -- no flag is set at first
-none-set : (n i : ℕ) → get_or (replicate n false) i false ≡ false
-none-set zero i = refl
-none-set (suc n) zero = refl
-none-set (suc n) (suc i) = none-set n i
+none_set : (n i : ℕ) → get_or (replicate n false) i false ≡ false
+none_set zero i = refl
+none_set (suc n) zero = refl
+none_set (suc n) (suc i) = none_set n i
 
 module _ (down same : List Bool) where
   -- what is flagged is grounded
@@ -17,14 +17,14 @@ module _ (down same : List Bool) where
     pub long : length flags ≡ 8
     pub sound : (i : ℕ) → get_or flags i false ≡ true → Grounded (flag_at down) (flag_at same) i
 
-  pub raised-first : Raised (replicate 8 false)
-  raised-first = record {
+  pub raised_first : Raised (replicate 8 false)
+  raised_first = record {
     long = refl;
-    sound = λ i e. absurd (both_ways (get_or (replicate 8 false) i false) (none-set 8 i) e);
+    sound = λ i e. absurd (both_ways (get_or (replicate 8 false) i false) (none_set 8 i) e);
   }
 
-  pub raised-more : (flags : List Bool) (p : ℕ) → Raised flags → p < 8 → (Waits (flag_at down) (flag_at same) flags p → ⊥) → Raised (set flags p true)
-  raised-more flags p f h free = record {
+  pub raised_more : (flags : List Bool) (p : ℕ) → Raised flags → p < 8 → (Waits (flag_at down) (flag_at same) flags p → ⊥) → Raised (set flags p true)
+  raised_more flags p f h free = record {
     long = length-set flags p true ∙ f.long;
     sound = λ i e.
         ⊎_elim (λ q. subst (Grounded (flag_at down) (flag_at same)) (sym q) here)
@@ -35,7 +35,7 @@ module _ (down same : List Bool) where
       here : Grounded (flag_at down) (flag_at same) p
       here = Grounded.ground p (λ v u a b.
           ⊎_elim (λ e. f.sound u e)
-          (λ e. absurd (free (v, (flag-parts same p v a).1, a, (u, (flag-parts down u v b).0, b, e))))
+          (λ e. absurd (free (v, (flag_parts same p v a).1, a, (u, (flag_parts down u v b).0, b, e))))
           (cases_Bool (get_or flags u false)))
 
   module _ (flags : List Bool) (f : Raised flags) (shut : (i : ℕ) → i < 8 → get_or flags i false ≡ false → (Waits (flag_at down) (flag_at same) flags i → ⊥) → ⊥) where

@@ -14,25 +14,25 @@ pub record Admission (n : ℕ) (f : Fact) (known room : Bool) : Type 0 where
   pub fresh : known ≡ false
   pub space : room ≡ true
 
-pub new-admitted : (n : ℕ) (f : Fact) (known room : Bool) → admitted n f known room ≡ Ok New → Admission n f known room
-new-admitted n (Is k a) known room e = record { range = grind (arith, nat_tests); fresh = grind (arith, nat_tests); space = grind (arith, nat_tests) }
-new-admitted n (Joins l a b) known room e = record { range = grind (arith, nat_tests); fresh = grind (arith, nat_tests); space = grind (arith, nat_tests) }
+pub new_admitted : (n : ℕ) (f : Fact) (known room : Bool) → admitted n f known room ≡ Ok New → Admission n f known room
+new_admitted n (Is k a) known room e = record { range = grind (arith, nat_tests); fresh = grind (arith, nat_tests); space = grind (arith, nat_tests) }
+new_admitted n (Joins l a b) known room e = record { range = grind (arith, nat_tests); fresh = grind (arith, nat_tests); space = grind (arith, nat_tests) }
 
 -- a fact that is answered to be new is gained
-pub after-new : (h : Holding) (f : Fact) → reply h f ≡ Ok New → after h f ≡ gain h f
-after-new h f e = rw e refl
+pub after_new : (h : Holding) (f : Fact) → reply h f ≡ Ok New → after h f ≡ gain h f
+after_new h f e = rw e refl
 
-pub new-reply : (h : Holding) (f : Fact) → reply h f ≡ Ok New → Admission h.names f (h.facts f) (ltb (count h) h.limit)
-new-reply h f e = new-admitted h.names f (h.facts f) (ltb (count h) h.limit) e
+pub new_reply : (h : Holding) (f : Fact) → reply h f ≡ Ok New → Admission h.names f (h.facts f) (ltb (count h) h.limit)
+new_reply h f e = new_admitted h.names f (h.facts f) (ltb (count h) h.limit) e
 
 -- where the tests of the code are those of the holding, an entry that is new was answered as new
-pub was-new : (h : Holding) (f : Fact) (known : Bool) (n limit : ℕ) (e : Entry) → known ≡ h.facts f → n ≡ count h → limit ≡ h.limit
+pub was_new : (h : Holding) (f : Fact) (known : Bool) (n limit : ℕ) (e : Entry) → known ≡ h.facts f → n ≡ count h → limit ≡ h.limit
     → Ok e ≡ admitted h.names f known (ltb n limit) → e ≡ New → reply h f ≡ Ok New
-was-new h f known n limit e p q r a s =
+was_new h f known n limit e p q r a s =
     let t : admitted h.names f known (ltb n limit) ≡ reply h f = rw (p, q, r) refl in
     sym t ∙ (sym a ∙ ap Ok s)
 
 -- where no number is at fault the fact can be stated
-pub range-within : (n : ℕ) (f : Fact) → fault_in n f ≡ Ok tt → within n f ≡ true
-range-within n (Is k a) e = grind (arith, nat_tests)
-range-within n (Joins l a b) e = grind (arith, nat_tests)
+pub range_within : (n : ℕ) (f : Fact) → fault_in n f ≡ Ok tt → within n f ≡ true
+range_within n (Is k a) e = grind (arith, nat_tests)
+range_within n (Joins l a b) e = grind (arith, nat_tests)

@@ -7,15 +7,15 @@ use Rattle.std.proofs.lemmas.Bool.{and_left, cases_eq, cases_Bool}
 use Rattle.std.proofs.lemmas.Bool.Decides.{nat_tests}
 use Rattle.league.specs.declared.facts.Fact.{Fact}
 use Rattle.league.specs.Facts.{same, plus, count_of, within}
-use Rattle.league.proofs.Counts.{count-gain, count_none, same-eq}
+use Rattle.league.proofs.Counts.{count-gain, count_none, same_eq}
 use Rattle.store.specs.Holding.{gain, opened}
 use Rattle.store.specs.Bits.{place_of, with_bit, set_bit, cleared, size_of, bit_limit, names_over, marked, held_bits}
 use Rattle.store.proofs.BitsSet.{set_here, set_there}
-use Rattle.store.proofs.BitsPlaced.{place_same, place-below}
+use Rattle.store.proofs.BitsPlaced.{place_same, place_below}
 
 -- the byte of a fact's bit is one of the store's
 pub place_byte : (n : ℕ) (xs : List ℕ) (f : Fact) → within n f ≡ true → size_of n ≤ length xs → place_of n f / 8 < length xs
-place_byte n xs f w l = omega (arith, place-below n f w)
+place_byte n xs f w l = omega (arith, place_below n f w)
 
 -- the bytes in which a fact's bit was set hold that fact more
 pub marked-set : (n : ℕ) (xs : List ℕ) (f : Fact) → within n f ≡ true → size_of n ≤ length xs → marked n (set_bit xs (place_of n f)) ≡ plus f (marked n xs)
@@ -24,7 +24,7 @@ marked-set n xs f w l = fun_ext (λ g. ⊎_elim (inside g) (outside g) (cases_Bo
     outside : (g : Fact) → within n g ≡ false → marked n (set_bit xs (place_of n f)) g ≡ plus f (marked n xs) g
     outside g v =
         let d : same f g ≡ false =
-        ⊎_elim (λ e. let t : within n g ≡ true = rw (same-eq f g e) at w in cc) (λ e. e) (cases_Bool (same f g)) in
+        ⊎_elim (λ e. let t : within n g ≡ true = rw (same_eq f g e) at w in cc) (λ e. e) (cases_Bool (same f g)) in
         rw (v, d) refl
 
     inside : (g : Fact) → within n g ≡ true → marked n (set_bit xs (place_of n f)) g ≡ plus f (marked n xs) g
@@ -33,7 +33,7 @@ marked-set n xs f w l = fun_ext (λ g. ⊎_elim (inside g) (outside g) (cases_Bo
         ⊎_elim (λ e. rw (v, place_same n f g w v e, ← e) (set_here xs (place_of n f) h))
         (λ ne.
         let d : same f g ≡ false =
-        ⊎_elim (λ e. absurd (ne (ap (place_of n) (same-eq f g e)))) (λ e. e) (cases_Bool (same f g)) in
+        ⊎_elim (λ e. absurd (ne (ap (place_of n) (same_eq f g e)))) (λ e. e) (cases_Bool (same f g)) in
         rw (v, d) (set_there xs (place_of n f) (place_of n g) h ne))
         (cases_eq (place_of n f) (place_of n g))
 
@@ -42,9 +42,9 @@ held-set n xs f w l =
     ap (λ (s : Fact → Bool). record { names = n; limit = bit_limit n; facts = s }) (marked-set n xs f w l)
 
 -- one more is counted where the fact is new
-pub counted-set : (n : ℕ) (xs : List ℕ) (f : Fact) (k : ℕ) → within n f ≡ true → size_of n ≤ length xs → marked n xs f ≡ false
+pub counted_set : (n : ℕ) (xs : List ℕ) (f : Fact) (k : ℕ) → within n f ≡ true → size_of n ≤ length xs → marked n xs f ≡ false
     → k ≡ count_of n (marked n xs) → k + 1 ≡ count_of n (marked n (set_bit xs (place_of n f)))
-counted-set n xs f k w l e t =
+counted_set n xs f k w l e t =
     ap (λ (x : ℕ). x + 1) t ∙ (sym (count-gain n (marked n xs) f w e) ∙ ap (count_of n) (sym (marked-set n xs f w l)))
 
 -- the bytes as the program writes a bit of them
@@ -63,7 +63,7 @@ marked-cleared n xs = fun_ext (λ f. ⊎_elim (inside f) (λ e. and_left _ _ e) 
     inside : (f : Fact) → within n f ≡ true → marked n (cleared (size_of n) xs) f ≡ false
     inside f w =
         let e : get_or (cleared (size_of n) xs) (place_of n f / 8) 0 ≡ 0 =
-        cleared_at (size_of n) xs (place_of n f / 8) (omega (arith, place-below n f w)) in
+        cleared_at (size_of n) xs (place_of n f / 8) (omega (arith, place_below n f w)) in
         let q : 0 / 2 ^ (place_of n f % 8) ≡ 0 = zero-div (2 ^ (place_of n f % 8)) in
         rw (w, e, q) refl
 
@@ -71,12 +71,12 @@ pub held-cleared : (n : ℕ) (xs : List ℕ) → held_bits n (cleared (size_of n
 held-cleared n xs =
     ap (λ (s : Fact → Bool). record { names = n; limit = bit_limit n; facts = s }) (marked-cleared n xs)
 
-pub counted-cleared : (n : ℕ) (xs : List ℕ) → 0 ≡ count_of n (marked n (cleared (size_of n) xs))
-counted-cleared n xs = sym (ap (count_of n) (marked-cleared n xs) ∙ count_none n)
+pub counted_cleared : (n : ℕ) (xs : List ℕ) → 0 ≡ count_of n (marked n (cleared (size_of n) xs))
+counted_cleared n xs = sym (ap (count_of n) (marked-cleared n xs) ∙ count_none n)
 
 -- a store has at most 1,024 names, and bytes enough for their bits
-pub over-few : (xs : List ℕ) (asked : ℕ) → names_over xs asked ≤ 1024
-over-few xs asked = grind (arith, nat_tests)
+pub over_few : (xs : List ℕ) (asked : ℕ) → names_over xs asked ≤ 1024
+over_few xs asked = grind (arith, nat_tests)
 
-pub over-room : (xs : List ℕ) (asked : ℕ) → size_of (names_over xs asked) ≤ length xs
-over-room xs asked = grind (arith, nat_tests)
+pub over_room : (xs : List ℕ) (asked : ℕ) → size_of (names_over xs asked) ≤ length xs
+over_room xs asked = grind (arith, nat_tests)

@@ -6,19 +6,19 @@ use Rattle.std.proofs.lemmas.Bool.{cases_eq, cases_order}
 use Rattle.store.specs.Bits.{is_set, with_bit, set_bit}
 
 -- a power of two has one bit, and no other
-pow-bit-same : (j : ℕ) → 2 ^ j / 2 ^ j % 2 ≡ 1
-pow-bit-same j =
+pow_bit_same : (j : ℕ) → 2 ^ j / 2 ^ j % 2 ≡ 1
+pow_bit_same j =
     let e : 1 * 2 ^ j ≡ 2 ^ j = omega arith in
     let q : 2 ^ j / 2 ^ j ≡ 1 = rw e at (shl-shr 1 j) in
     rw q refl
 
-pow-bit-above : (d k : ℕ) → 2 ^ ((d + 1) + k) / 2 ^ k % 2 ≡ 0
-pow-bit-above d k =
+pow_bit_above : (d k : ℕ) → 2 ^ ((d + 1) + k) / 2 ^ k % 2 ≡ 0
+pow_bit_above d k =
     let e : 2 ^ ((d + 1) + k) / 2 ^ k ≡ 2 ^ (d + 1) = rw (pow-add 2 (d + 1) k) (shl-shr (2 ^ (d + 1)) k) in
     rw (e, pow-add 2 d 1) (omega arith)
 
-pow-bit-other : (j k : ℕ) → (j ≡ k → ⊥) → 2 ^ j / 2 ^ k % 2 ≡ 0
-pow-bit-other j k ne = ⊎_elim (λ e. absurd (ne e)) (⊎_elim below above) (cases_order j k)
+pow_bit_other : (j k : ℕ) → (j ≡ k → ⊥) → 2 ^ j / 2 ^ k % 2 ≡ 0
+pow_bit_other j k ne = ⊎_elim (λ e. absurd (ne e)) (⊎_elim below above) (cases_order j k)
   where
     below : j < k → 2 ^ j / 2 ^ k % 2 ≡ 0
     below l =
@@ -27,11 +27,11 @@ pow-bit-other j k ne = ⊎_elim (λ e. absurd (ne e)) (⊎_elim below above) (ca
         rw e refl
 
     above : k < j → 2 ^ j / 2 ^ k % 2 ≡ 0
-    above l = subst (λ (x : ℕ). 2 ^ x / 2 ^ k % 2 ≡ 0) (omega arith) (pow-bit-above (j - k - 1) k)
+    above l = subst (λ (x : ℕ). 2 ^ x / 2 ^ k % 2 ≡ 0) (omega arith) (pow_bit_above (j - k - 1) k)
 
 -- a bit of a byte that gained one is a bit of the byte or of the power of two
-with-bit : (v j k : ℕ) → with_bit v j / 2 ^ k % 2 ≡ bit_or (v / 2 ^ k % 2) (2 ^ j / 2 ^ k % 2)
-with-bit v j k = rw (or_shr v (2 ^ j) k) (or_mod (v / 2 ^ k) (2 ^ j / 2 ^ k) 1)
+with_bit_lem : (v j k : ℕ) → with_bit v j / 2 ^ k % 2 ≡ bit_or (v / 2 ^ k % 2) (2 ^ j / 2 ^ k % 2)
+with_bit_lem v j k = rw (or_shr v (2 ^ j) k) (or_mod (v / 2 ^ k) (2 ^ j / 2 ^ k) 1)
 
 or-one : (b : ℕ) → b < 2 → bit_or b 1 ≡ 1
 or-one zero l = refl
@@ -42,7 +42,7 @@ or-one (suc (suc b)) l = omega arith
 pub set_here : (xs : List ℕ) (i : ℕ) → i / 8 < length xs → is_set (set_bit xs i) i ≡ true
 set_here xs i l =
     let v = get_or xs (i / 8) 0 in
-    rw (get_or-set_same, with-bit v (i % 8) (i % 8), pow-bit-same (i % 8), or-one (v / 2 ^ (i % 8) % 2) (omega arith)) refl
+    rw (get_or-set_same, with_bit_lem v (i % 8) (i % 8), pow_bit_same (i % 8), or-one (v / 2 ^ (i % 8) % 2) (omega arith)) refl
 
 -- any other bit is as it was
 pub set_there : (xs : List ℕ) (i j : ℕ) → i / 8 < length xs → (i ≡ j → ⊥) → is_set (set_bit xs i) j ≡ is_set xs j
@@ -52,7 +52,7 @@ set_there xs i j l ne = ⊎_elim here there (cases_eq (i / 8) (j / 8))
     here e =
         let v = get_or xs (j / 8) 0 in
         let k : j / 8 < length xs = omega arith in
-        rw (e, get_or-set_same, with-bit v (i % 8) (j % 8), pow-bit-other (i % 8) (j % 8) (λ q. ne (omega arith)), or_zero_r) refl
+        rw (e, get_or-set_same, with_bit_lem v (i % 8) (j % 8), pow_bit_other (i % 8) (j % 8) (λ q. ne (omega arith)), or_zero_r) refl
 
     there : (i / 8 ≡ j / 8 → ⊥) → is_set (set_bit xs i) j ≡ is_set xs j
     there d = let h : j / 8 ≢ i / 8 = λ q. d (sym q) in rw get_or-set_other refl

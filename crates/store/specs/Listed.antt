@@ -9,12 +9,12 @@ use Rattle.std.proofs.lemmas.Bool.{and_parts, or_parts, or_cases, not-true}
 use Rattle.league.specs.declared.facts.Fact.{Fact}
 use Rattle.league.specs.Facts.{same, plus, count_of, within}
 use Rattle.store.specs.Holding.{count, gain, Sound}
-use Rattle.league.proofs.Counts.{count-gain, count_none, same-sym, same-eq}
+use Rattle.league.proofs.Counts.{count-gain, count_none, same_sym, same_eq}
 use Rattle.store.specs.Records.{listed, distinct, held}
 
-pub listed-push : (xs : List Fact) (x g : Fact) → listed (xs ++ (x ∷ [])) g ≡ plus x (listed xs) g
-listed-push [] x g = refl
-listed-push (y ∷ ys) x g = rw (listed-push ys x g) (swap (same y g) (same x g) (listed ys g))
+pub listed_push : (xs : List Fact) (x g : Fact) → listed (xs ++ (x ∷ [])) g ≡ plus x (listed xs) g
+listed_push [] x g = refl
+listed_push (y ∷ ys) x g = rw (listed_push ys x g) (swap (same y g) (same x g) (listed ys g))
   where
     swap : (a b c : Bool) → (a || (b || c)) ≡ (b || (a || c))
     swap true true c = refl
@@ -38,8 +38,8 @@ distinct_push n (y ∷ ys) x e w l =
     let q = and_parts (not (listed ys y)) (distinct n ys) p.1 in
     let o = or_parts (same y x) (listed ys x) l in
     let h = distinct_push n ys x q.1 w o.1 in
-    let s : same x y ≡ false = same-sym x y ∙ o.0 in
-    rw (p.0, listed-push ys x y, s, q.0, h) refl
+    let s : same x y ≡ false = same_sym x y ∙ o.0 in
+    rw (p.0, listed_push ys x y, s, q.0, h) refl
 
 pub listed_more : (xs : List Fact) (i : ℕ) (f : Fact) → i < length xs → listed (drop i xs) f ≡ (same (slice_index_or xs i (Is (record { 0 = 0 }) (record { 0 = 0 }))) f || listed (drop (i + 1) xs) f)
 listed_more xs i f l = at_drop_more (λ ys. listed ys f) xs i (Is (record { 0 = 0 }) (record { 0 = 0 })) l
@@ -51,12 +51,12 @@ pub held-put : (n : ℕ) (xs : List Fact) (len : ℕ) (x : Fact) → len < lengt
 held-put n xs len x l =
     let a : min (length (slice_set xs len x)) 65535 ≡ min (length xs) 65535 = rw length-set refl in
     let b : listed (take (len + 1) (slice_set xs len x)) ≡ plus x (listed (take len xs)) =
-    fun_ext (λ g. rw (take_more_set xs len x l) (listed-push (take len xs) x g)) in
+    fun_ext (λ g. rw (take_more_set xs len x l) (listed_push (take len xs) x g)) in
     λ i. record { names = n; limit = a i; facts = b i }
 
 -- where the store is not full there is a record left
-pub room-left : (n : ℕ) (xs : List Fact) (len : ℕ) → len ≤ min (length xs) 65535 → distinct n (take len xs) ≡ true → count (held n xs len) < min (length xs) 65535 → len < min (length xs) 65535
-room-left n xs len l e h = omega (arith, h, count_held n xs len l e)
+pub room_left : (n : ℕ) (xs : List Fact) (len : ℕ) → len ≤ min (length xs) 65535 → distinct n (take len xs) ≡ true → count (held n xs len) < min (length xs) 65535 → len < min (length xs) 65535
+room_left n xs len l e h = omega (arith, h, count_held n xs len l e)
 
 -- what a record store keeps as it gains a record
 pub kept : (n : ℕ) (xs : List Fact) (len : ℕ) (x : Fact) → len < min (length xs) 65535 → distinct n (take len xs) ≡ true → within n x ≡ true → listed (take len xs) x ≡ false → distinct n (take (len + 1) (slice_set xs len x)) ≡ true
@@ -67,8 +67,8 @@ listed-within n [] e f l = cc
 listed-within n (x ∷ xs) e f l =
     let p = and_parts (within n x) (not (listed xs x) && distinct n xs) e in
     let q = and_parts (not (listed xs x)) (distinct n xs) p.1 in
-    ⊎_elim (λ s. subst (λ (y : Fact). within n y ≡ true) (same-eq x f s) p.0) (λ t. listed-within n xs q.1 f t) (or_cases (same x f) (listed xs f) l)
+    ⊎_elim (λ s. subst (λ (y : Fact). within n y ≡ true) (same_eq x f s) p.0) (λ t. listed-within n xs q.1 f t) (or_cases (same x f) (listed xs f) l)
 
-pub held-sound : (n : ℕ) (xs : List Fact) (len : ℕ) → n ≤ 1024 → len ≤ min (length xs) 65535 → distinct n (take len xs) ≡ true → Sound (held n xs len)
-held-sound n xs len s l e =
+pub held_sound : (n : ℕ) (xs : List Fact) (len : ℕ) → n ≤ 1024 → len ≤ min (length xs) 65535 → distinct n (take len xs) ≡ true → Sound (held n xs len)
+held_sound n xs len s l e =
     record { few = s; room = omega (arith, count_held n xs len l e); range = listed-within n (take len xs) e }

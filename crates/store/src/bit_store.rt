@@ -3,7 +3,7 @@
 ghost use Rattle.std.specs.Prelude.{◌≡◌, ◌/◌, ◌<◌, ◌≤◌, length};
 ghost use Rattle.store.specs.Bits.{place_of, is_set, with_bit, cleared, size_of, bit_limit, names_over, held_bits};
 ghost use Rattle.store.specs.Holding.{opened};
-ghost use Rattle.store.specs.Marked.{held-bits-sound};
+ghost use Rattle.store.specs.Marked.{held_bits_sound};
 
 use crate::bits::BitStore;
 use crate::contract::{Store, admit, check_range};
@@ -88,7 +88,7 @@ impl<'a> BitStore<'a> {
 impl<'a> Store for BitStore<'a> {
     ghost means = { λ s. held_bits s.names s.bytes.now };
 
-    ghost sound = { λ s. held-bits-sound s.names s.bytes.now s.few };
+    ghost sound = { λ s. held_bits_sound s.names s.bytes.now s.few };
 
     fn names(&self) -> u16 {
         self.names

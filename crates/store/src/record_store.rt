@@ -3,7 +3,7 @@ ghost use Rattle.std.specs.Prelude.{◌≡◌, ◌≤◌, length};
 ghost use Rattle.league.specs.Facts.{same as same_fact};
 ghost use Rattle.store.specs.Holding.{names_of, opened};
 ghost use Rattle.store.specs.Records.{held, listed, record_limit};
-ghost use Rattle.store.specs.Listed.{held-sound};
+ghost use Rattle.store.specs.Listed.{held_sound};
 
 use crate::contract::{Store, admit};
 use crate::records::RecordStore;
@@ -53,7 +53,7 @@ impl<'a> RecordStore<'a> {
 impl<'a> Store for RecordStore<'a> {
     ghost means = { λ s. held s.names s.records.now s.len };
 
-    ghost sound = { λ s. held-sound s.names s.records.now s.len s.few s.room s.good };
+    ghost sound = { λ s. held_sound s.names s.records.now s.len s.few s.room s.good };
 
     fn names(&self) -> u16 {
         self.names

@@ -10,21 +10,21 @@ use Rattle.text.specs.Forms.{value_from, digits_form}
 abbrev pub Reading : Bytes → ℕ → ℕ → Type 0
 Reading s i n = (all_ascii_digits s ≡ all_ascii_digits (drop i s)) × (value_from 0 s ≡ value_from n (drop i s)) × (n < 10 ^ i)
 
-pub digit-fails : (s : Bytes) (i n : ℕ) → i < length s → Reading s i n → (get_or s i 0 < 48) ⊎ (57 < get_or s i 0) → None ≡ digits_form s
-digit-fails s i n l h out =
+pub digit_fails : (s : Bytes) (i n : ℕ) → i < length s → Reading s i n → (get_or s i 0 < 48) ⊎ (57 < get_or s i 0) → None ≡ digits_form s
+digit_fails s i n l h out =
     let e = at_drop_more all_ascii_digits s i 0 l in
     let d : (leb 48 (get_or s i 0) && leb (get_or s i 0) 57) ≡ false = ⊎_elim (λ k. grind (arith, nat_tests)) (λ k. grind (arith, nat_tests)) out in
     let f : all_ascii_digits s ≡ false = h.0 ∙ (e ∙ rw d refl) in
     rw f refl
 
-pub digit-more : (s : Bytes) (i n : ℕ) → i < length s → Reading s i n → 48 ≤ get_or s i 0 → get_or s i 0 ≤ 57 → Reading s (i + 1) (10 * n + (get_or s i 0 - 48))
-digit-more s i n l h lo hi =
+pub digit_more : (s : Bytes) (i n : ℕ) → i < length s → Reading s i n → 48 ≤ get_or s i 0 → get_or s i 0 ≤ 57 → Reading s (i + 1) (10 * n + (get_or s i 0 - 48))
+digit_more s i n l h lo hi =
     let d : (leb 48 (get_or s i 0) && leb (get_or s i 0) 57) ≡ true = grind (arith, nat_tests) in
     let p : 10 ^ (i + 1) ≡ 10 ^ i * 10 = rw (add-one i) (pow-suc 10 i) in
     (h.0 ∙ (at_drop_more all_ascii_digits s i 0 l ∙ rw d refl), h.1 ∙ at_drop_more (value_from n) s i 0 l, rw p (omega (arith, h.2)))
 
-pub digits-end : (s : Bytes) (i n : ℕ) → length s ≤ i → Reading s i n → Some n ≡ digits_form s
-digits-end s i n l h =
+pub digits_end : (s : Bytes) (i n : ℕ) → length s ≤ i → Reading s i n → Some n ≡ digits_form s
+digits_end s i n l h =
     let a : all_ascii_digits s ≡ true = h.0 ∙ at_drop_all all_ascii_digits s i l in
     let b : value_from 0 s ≡ n = h.1 ∙ at_drop_all (value_from n) s i l in
     rw (a, b) refl

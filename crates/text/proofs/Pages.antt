@@ -12,13 +12,13 @@ use Rattle.rules.specs.RuleSet.{RuleSet}
 use Rattle.certain.specs.Reference.{accepted}
 use Rattle.text.specs.Runs.{Filled, outputs}
 
-pub pasted-none : (b : Bytes) (w : ℕ) (s : Bytes) → pasted b w (take 0 s) ≡ b
-pasted-none b w s = let z : w + 0 ≡ w = omega arith in rw z (take-append-drop w b)
+pub pasted_none : (b : Bytes) (w : ℕ) (s : Bytes) → pasted b w (take 0 s) ≡ b
+pasted_none b w s = let z : w + 0 ≡ w = omega arith in rw z (take-append-drop w b)
 
 -- one byte more of a line
-pub pasted-more : (b : Bytes) (w : ℕ) (s : Bytes) (i : ℕ) → w + i < length b → i < length s
+pub pasted_more : (b : Bytes) (w : ℕ) (s : Bytes) (i : ℕ) → w + i < length b → i < length s
     → set (pasted b w (take i s)) (w + i) (get_or s i 0) ≡ pasted b w (take (i + 1) s)
-pasted-more b w s i l k =
+pasted_more b w s i l k =
     let n : length (take i s) ≡ i = length-take-le i s (omega arith) in
     let m : length (take w b) ≡ w = length-take-le w b (omega arith) in
     let p : length (take w b ++ take i s) ≡ w + i = length-append (take w b) (take i s) ∙ rw (m, n) refl in
@@ -31,9 +31,9 @@ pasted-more b w s i l k =
     rw left (set_at (take w b ++ take i s) (get_or b (w + i) 0) (drop (w + i + 1) b) (get_or s i 0) (w + i) p ∙ sym right)
 
 -- once a line was left out, nothing more is written
-pub all-full : (b : Bytes) (w : ℕ) (outs : List Bytes) → put_all (page b w true) outs ≡ page b w true
-all-full b w [] = refl
-all-full b w (l ∷ ls) = all-full b w ls
+pub all_full : (b : Bytes) (w : ℕ) (outs : List Bytes) → put_all (page b w true) outs ≡ page b w true
+all_full b w [] = refl
+all_full b w (l ∷ ls) = all_full b w ls
 
 -- one line after another
 pub pasted-pasted : (b : Bytes) (w : ℕ) (l k : Bytes) → w ≤ length b → pasted (pasted b w l) (w + length l) k ≡ pasted b w (l ++ k)
@@ -58,12 +58,12 @@ pub record Stands (b : Bytes) (w : ℕ) (outs : List Bytes) (p : Page) : Type 0 
   pub bytes : p.bytes ≡ pasted b w (together (kept (length b - w) outs))
   pub reply : result p ≡ cond (leb (w + length (together outs)) (length b)) (Ok (w + length (together outs))) (Err book.Page)
 
-pub all-stands : (b : Bytes) (w : ℕ) (outs : List Bytes) → w ≤ length b → Stands b w outs (put_all (page b w false) outs)
-all-stands b w [] h =
+pub all_stands : (b : Bytes) (w : ℕ) (outs : List Bytes) → w ≤ length b → Stands b w outs (put_all (page b w false) outs)
+all_stands b w [] h =
     let z : w + 0 ≡ w = omega arith in
     let t : leb w (length b) ≡ true = grind (arith, nat_tests) in
-    record { bytes = sym (pasted-none b w []); reply = rw (z, t) refl }
-all-stands b w (l ∷ ls) h = ⊎_elim (λ k. left_out k) (λ k. fits k (all-stands (pasted b w l) (w + length l) ls)) (cases_lt (length b - w) (length l))
+    record { bytes = sym (pasted_none b w []); reply = rw (z, t) refl }
+all_stands b w (l ∷ ls) h = ⊎_elim (λ k. left_out k) (λ k. fits k (all_stands (pasted b w l) (w + length l) ls)) (cases_lt (length b - w) (length l))
   where
     left_out : length b - w < length l → Stands b w (l ∷ ls) (put_all (page b w false) (l ∷ ls))
     left_out k =
@@ -72,8 +72,8 @@ all-stands b w (l ∷ ls) h = ⊎_elim (λ k. left_out k) (λ k. fits k (all-sta
         let a = length-append l (together ls) in
         let v : leb (w + length (l ++ together ls)) (length b) ≡ false = grind (arith, nat_tests) in
         let out : put (page b w false) l ≡ page b w true = rw t refl in
-        let end : put_all (put (page b w false) l) ls ≡ page b w true = ap (λ (q : Page). put_all q ls) out ∙ all-full b w ls in
-        record { bytes = ap (λ (q : Page). q.bytes) end ∙ rw u (sym (pasted-none b w [])); reply = ap result end ∙ rw v refl }
+        let end : put_all (put (page b w false) l) ls ≡ page b w true = ap (λ (q : Page). put_all q ls) out ∙ all_full b w ls in
+        record { bytes = ap (λ (q : Page). q.bytes) end ∙ rw u (sym (pasted_none b w [])); reply = ap result end ∙ rw v refl }
 
     fits : length l ≤ length b - w → (w + length l ≤ length (pasted b w l) → Stands (pasted b w l) (w + length l) ls (put_all (page (pasted b w l) (w + length l) false) ls))
         → Stands b w (l ∷ ls) (put_all (page b w false) (l ∷ ls))
@@ -97,7 +97,7 @@ all-stands b w (l ∷ ls) h = ⊎_elim (λ k. left_out k) (λ k. fits k (all-sta
 pub filled : (outs : List Bytes) (before after : Bytes) (p : Page) (r : Result ℕ BookFault)
     → p ≡ put_all (fresh before) outs → r ≡ result p → after ≡ p.bytes → Filled outs before after r
 filled outs before after p r e f g =
-    let s = all-stands before 0 outs (omega arith) in
+    let s = all_stands before 0 outs (omega arith) in
     let z : length before - 0 ≡ length before = omega arith in
     record {
       page = g ∙ (ap (λ (q : Page). q.bytes) e ∙ (s.bytes ∙ rw (z, zero-add (length (together (kept (length before) outs)))) refl));

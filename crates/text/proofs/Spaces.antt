@@ -14,7 +14,7 @@ use Rattle.certain.specs.declared.calls.Call.{Call}
 use Rattle.certain.specs.declared.calls.Call.TheVariants.{EnterFact, EnterRule}
 use Rattle.text.specs.Lines.{Bytes, fields}
 use Rattle.text.specs.Written.{Small, ShortRole, ShortMark, Short, role_text, mark_text, written, spaced}
-use Rattle.text.proofs.Cuts.{fields-some}
+use Rattle.text.proofs.Cuts.{fields_some}
 
 -- no byte is a space
 abbrev Clean : Bytes → Type 0
@@ -49,7 +49,7 @@ spaced-fields [] = refl
 spaced-fields (b ∷ bs) = ⊎_elim (λ e. space e (spaced-fields bs)) (λ e. other e (spaced-fields bs)) (cases_Bool (eqb b 32))
   where
     f : (w : Bytes) × (ws : List Bytes) × (fields bs ≡ w ∷ ws)
-    f = fields-some bs
+    f = fields_some bs
 
     space : eqb b 32 ≡ true → spaced (fields bs) ≡ bs → spaced (fields (b ∷ bs)) ≡ b ∷ bs
     space e again =
@@ -62,32 +62,32 @@ spaced-fields (b ∷ bs) = ⊎_elim (λ e. space e (spaced-fields bs)) (λ e. ot
         rw (e, f.2) (spaced-onto b f.0 f.1 ∙ ap (λ x. b ∷ x) h)
 
 -- digits are no spaces
-clean-digits : (ds : Bytes) → AllDigits 10 ds → Clean ds
-clean-digits [] d = tt
-clean-digits (c ∷ cs) d = (ne_eqb c 32 (λ e. omega (arith, digit_from_value c d.0)), clean-digits cs d.1)
+clean_digits : (ds : Bytes) → AllDigits 10 ds → Clean ds
+clean_digits [] d = tt
+clean_digits (c ∷ cs) d = (ne_eqb c 32 (λ e. omega (arith, digit_from_value c d.0)), clean_digits cs d.1)
 
-clean-number : (n : ℕ) → Small n → Clean (decimal n)
-clean-number n l = clean-digits (decimal n) (decimal_is_IsNumeral n (omega arith)).0.1
+clean_number : (n : ℕ) → Small n → Clean (decimal n)
+clean_number n l = clean_digits (decimal n) (decimal_is_IsNumeral n (omega arith)).0.1
 
-clean-role : (r : Role) → ShortRole r → Clean (role_text r)
-clean-role (Forward link) l = (refl, clean-number link.0 l)
-clean-role (Backward link) l = (refl, clean-number link.0 l)
+clean_role : (r : Role) → ShortRole r → Clean (role_text r)
+clean_role (Forward link) l = (refl, clean_number link.0 l)
+clean_role (Backward link) l = (refl, clean_number link.0 l)
 
-clean-mark : (m : Mark) → ShortMark m → Clean (mark_text m)
-clean-mark (Is kind) l = (refl, clean-number kind.0 l)
-clean-mark (Has role) l = clean-role role l
+clean_mark : (m : Mark) → ShortMark m → Clean (mark_text m)
+clean_mark (Is kind) l = (refl, clean_number kind.0 l)
+clean_mark (Has role) l = clean_role role l
 
 -- the fields of a call's line are those that were written
 pub fields-written : (c : Call) → Short c → fields (spaced (written c)) ≡ written c
 fields-written (EnterFact (fact.Is kind name)) l =
-    fields-spaced _ (_ ∷ (_ ∷ [])) (refl, tt) (clean-number kind.0 l.0, (clean-number name.0 l.1, tt))
+    fields-spaced _ (_ ∷ (_ ∷ [])) (refl, tt) (clean_number kind.0 l.0, (clean_number name.0 l.1, tt))
 fields-written (EnterFact (fact.Joins link from to)) l =
-    fields-spaced _ (_ ∷ (_ ∷ (_ ∷ []))) (refl, tt) (clean-number link.0 l.0, (clean-number from.0 l.1, (clean-number to.0 l.2, tt)))
+    fields-spaced _ (_ ∷ (_ ∷ (_ ∷ []))) (refl, tt) (clean_number link.0 l.0, (clean_number from.0 l.1, (clean_number to.0 l.2, tt)))
 fields-written (EnterRule (Inclusion first second)) l =
-    fields-spaced _ (_ ∷ (_ ∷ [])) (refl, tt) (clean-mark first l.0, (clean-mark second l.1, tt))
+    fields-spaced _ (_ ∷ (_ ∷ [])) (refl, tt) (clean_mark first l.0, (clean_mark second l.1, tt))
 fields-written (EnterRule (Exclusion first second)) l =
-    fields-spaced _ (_ ∷ (_ ∷ [])) (refl, tt) (clean-mark first l.0, (clean-mark second l.1, tt))
+    fields-spaced _ (_ ∷ (_ ∷ [])) (refl, tt) (clean_mark first l.0, (clean_mark second l.1, tt))
 fields-written (EnterRule (Required mark role kind)) l =
-    fields-spaced _ (_ ∷ (_ ∷ (_ ∷ []))) (refl, tt) (clean-mark mark l.0, (clean-role role l.1, ((refl, clean-number kind.0 l.2), tt)))
+    fields-spaced _ (_ ∷ (_ ∷ (_ ∷ []))) (refl, tt) (clean_mark mark l.0, (clean_role role l.1, ((refl, clean_number kind.0 l.2), tt)))
 fields-written (EnterRule (RoleInclusion first second)) l =
-    fields-spaced _ (_ ∷ (_ ∷ [])) (refl, tt) (clean-role first l.0, (clean-role second l.1, tt))
+    fields-spaced _ (_ ∷ (_ ∷ [])) (refl, tt) (clean_role first l.0, (clean_role second l.1, tt))

@@ -54,10 +54,10 @@ module _ {A C : Type 0} (form : Bytes → Option A) (text : A → Bytes) (ok : A
           let z : g.0 ≡ a = cc in
           t.3 (u.0, g.1, subst (λ b. M b u.0 g.1) z g.4, y)
 
-  pub tells-field : (ws : List Bytes) (f : A → Result C Unreadable) → ((a : A) → Tells (M a) (n + 1) (others ws) (f a)) → Tells L n ws (and_then (got form n ws) f)
-  tells-field [] f t = wrong [] (λ a l e. let z : ◌≡◌ {A = ℕ} 0 1 = ap length e in omega arith)
-  tells-field ([] ∷ ws) f t = wrong ([] ∷ ws) (λ a l e. let z : text a ≡ [] = cc in s.some a l z)
-  tells-field ((b ∷ bs) ∷ ws) f t = by (form (b ∷ bs)) refl
+  pub tells_field : (ws : List Bytes) (f : A → Result C Unreadable) → ((a : A) → Tells (M a) (n + 1) (others ws) (f a)) → Tells L n ws (and_then (got form n ws) f)
+  tells_field [] f t = wrong [] (λ a l e. let z : ◌≡◌ {A = ℕ} 0 1 = ap length e in omega arith)
+  tells_field ([] ∷ ws) f t = wrong ([] ∷ ws) (λ a l e. let z : text a ≡ [] = cc in s.some a l z)
+  tells_field ((b ∷ bs) ∷ ws) f t = by (form (b ∷ bs)) refl
     where
       by : (o : Option A) → form (b ∷ bs) ≡ o → Tells L n ((b ∷ bs) ∷ ws) (and_then (or_unreadable n o) f)
       by None e = wrong ((b ∷ bs) ∷ ws) (λ a l g.
@@ -68,9 +68,9 @@ module _ {A C : Type 0} (form : Bytes → Option A) (text : A → Bytes) (ok : A
       by (Some a) e = right (b ∷ bs) ws a (f a) e (t a)
 
 -- the end of the fields
-tells-end : {C : Type 0} (n : ℕ) (c : C) (ws : List Bytes) → Tells (λ d vs. (d ≡ c) × (vs ≡ [])) n ws (and_then (at_end n ws) (λ _. Ok c))
-tells-end n c [] = (refl, refl)
-tells-end n c (w ∷ ws) = (
+tells_end : {C : Type 0} (n : ℕ) (c : C) (ws : List Bytes) → Tells (λ d vs. (d ≡ c) × (vs ≡ [])) n ws (and_then (at_end n ws) (λ _. Ok c))
+tells_end n c [] = (refl, refl)
+tells_end n c (w ∷ ws) = (
   0,
   omega arith,
   (c, [], (refl, refl), refl),
@@ -91,20 +91,20 @@ module _ {A B : Type 0} {p : Bytes → Option A} {q : Bytes → Option B} {f : A
   abbrev Neither : A → B → A × B → List Bytes → Type 0
   Neither a b v ws = (v ≡ (a, b)) × (ws ≡ [])
 
-  pub tells-two : (ws : List Bytes) → Tells Both 2 ws (two p q ws)
-  tells-two ws =
+  pub tells_two : (ws : List Bytes) → Tells Both 2 ws (two p q ws)
+  tells_two ws =
       let a₀ = s.one in
       let b₀ = t.one in
-      tells-field p f ok s Both Second
+      tells_field p f ok s Both Second
       (λ a v vs l m. (subst ok (sym m.0) l, m.1, λ i. f (sym m.0 i) ∷ m.2 i))
       (λ v vs l. (v.0, g v.1 ∷ [], l.0, l.2, (refl, l.1, refl)))
       ((a₀.0, b₀.0), f a₀.0 ∷ (g b₀.0 ∷ []), (a₀.1, b₀.1, refl)) 2 ws _
       (λ a.
-      tells-field q g fine t (Second a) (Neither a)
+      tells_field q g fine t (Second a) (Neither a)
       (λ b v vs l m. (ap (λ (x : A × B). x.0) m.0, subst (λ (x : A × B). fine x.1) (sym m.0) l, λ i. g (sym m.0 i).1 ∷ m.1 i))
       (λ v vs l. (v.1, [], l.1, l.2, ((λ i. (l.0 i, v.1)), refl)))
       ((a, b₀.0), g b₀.0 ∷ [], (refl, b₀.1, refl)) 3 (others ws) _
-      (λ b. tells-end 4 (a, b) (others (others ws))))
+      (λ b. tells_end 4 (a, b) (others (others ws))))
 
 -- three fields
 module _ {A B C : Type 0} {p : Bytes → Option A} {q : Bytes → Option B} {r : Bytes → Option C} {f : A → Bytes} {g : B → Bytes} {h : C → Bytes}
@@ -122,22 +122,22 @@ module _ {A B C : Type 0} {p : Bytes → Option A} {q : Bytes → Option B} {r :
   abbrev LastNone : A → B → C → A × B × C → List Bytes → Type 0
   LastNone a b c v ws = (v ≡ (a, b, c)) × (ws ≡ [])
 
-  pub tells-three : (ws : List Bytes) → Tells All 2 ws (three p q r ws)
-  tells-three ws =
+  pub tells_three : (ws : List Bytes) → Tells All 2 ws (three p q r ws)
+  tells_three ws =
       let a₀ = s.one in
       let b₀ = t.one in
       let c₀ = u.one in
-      tells-field p f ok s All LastTwo
+      tells_field p f ok s All LastTwo
       (λ a v vs l m. (subst ok (sym m.0) l, m.1, m.2, λ i. f (sym m.0 i) ∷ m.3 i))
       (λ v vs l. (v.0, g v.1 ∷ (h v.2 ∷ []), l.0, l.3, (refl, l.1, l.2, refl)))
       ((a₀.0, b₀.0, c₀.0), f a₀.0 ∷ (g b₀.0 ∷ (h c₀.0 ∷ [])), (a₀.1, b₀.1, c₀.1, refl)) 2 ws _
       (λ a.
-      tells-field q g fine t (LastTwo a) (LastOne a)
+      tells_field q g fine t (LastTwo a) (LastOne a)
       (λ b v vs l m. (m.0, subst fine (sym m.1) l, m.2, λ i. g (sym m.1 i) ∷ m.3 i))
       (λ v vs l. (v.1, h v.2 ∷ [], l.1, l.3, (l.0, refl, l.2, refl)))
       ((a, b₀.0, c₀.0), g b₀.0 ∷ (h c₀.0 ∷ []), (refl, b₀.1, c₀.1, refl)) 3 (others ws) _
       (λ b.
-      tells-field r h good u (LastOne a b) (LastNone a b)
+      tells_field r h good u (LastOne a b) (LastNone a b)
       (λ c v vs l m. (
         ap (λ (x : A × B × C). x.0) m.0,
         ap (λ (x : A × B × C). x.1) m.0,
@@ -146,13 +146,13 @@ module _ {A B C : Type 0} {p : Bytes → Option A} {q : Bytes → Option B} {r :
       ))
       (λ v vs l. (v.2, [], l.2, l.3, ((λ i. (l.0 i, l.1 i, v.2)), refl)))
       ((a, b, c₀.0), h c₀.0 ∷ [], (refl, refl, c₀.1, refl)) 4 (others (others ws)) _
-      (λ c. tells-end 5 (a, b, c) (others (others (others ws))))))
+      (λ c. tells_end 5 (a, b, c) (others (others (others ws))))))
 
 -- a field of a value's text says the value
-said-back : {A : Type 0} (form : Bytes → Option A) (n : ℕ) (w : Bytes) (a : A) → form w ≡ Some a → (w ≡ [] → ⊥) → said form n w ≡ Ok a
-said-back form n [] a e some = absurd (some refl)
-said-back form n (b ∷ bs) a e some = ap (or_unreadable n) e
+said_back : {A : Type 0} (form : Bytes → Option A) (n : ℕ) (w : Bytes) (a : A) → form w ≡ Some a → (w ≡ [] → ⊥) → said form n w ≡ Ok a
+said_back form n [] a e some = absurd (some refl)
+said_back form n (b ∷ bs) a e some = ap (or_unreadable n) e
 
-pub got-back : {A : Type 0} {form : Bytes → Option A} {text : A → Bytes} {ok : A → Type 0} (s : Spells form text ok) (n : ℕ) (a : A) (ws : List Bytes) → ok a
+pub got_back : {A : Type 0} {form : Bytes → Option A} {text : A → Bytes} {ok : A → Type 0} (s : Spells form text ok) (n : ℕ) (a : A) (ws : List Bytes) → ok a
     → got form n (text a ∷ ws) ≡ Ok a
-got-back {form = form} {text = text} s n a ws l = said-back form n (text a) a (s.from a l) (s.some a l)
+got_back {form = form} {text = text} s n a ws l = said_back form n (text a) a (s.from a l) (s.some a l)

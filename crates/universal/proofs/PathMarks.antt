@@ -9,21 +9,21 @@ use Rattle.league.specs.declared.roles.Role.{Role}
 use Rattle.graph.specs.Paths.{Star}
 use Rattle.rules.specs.Follows.{Below, Implies}
 use Rattle.rules.specs.RuleSet.{RuleSet}
-use Rattle.rules.proofs.Marked.{turn-turn}
+use Rattle.rules.proofs.Marked.{turn_turn}
 use Rattle.model.specs.Canonical.{Present, Steps, By, HasMark, Joined}
 use Rattle.model.specs.Elements.{Element, element_of, number}
 use Rattle.model.specs.Recorded.{Recorded, Given, name_of}
 use Rattle.model.specs.Structures.{Shape, Form, Lawful}
 use Rattle.model.specs.Unravelled.{is_path, end_of, bare, extends, unravelled}
-use Rattle.model.proofs.CanonicalLaws.{canonical-lawful}
-use Rattle.model.proofs.Numbers.{element-name, element-number}
-use Rattle.model.proofs.Roles.{same-role, below-turned, implies-lift}
-use Rattle.model.proofs.Steps.{some-index}
-use Rattle.model.proofs.Tests.{and_both, both-and}
-use Rattle.search.proofs.Joining.{View, view, joined, Bare, bare_parts, Extends, extends-parts, extends-made}
-use Rattle.search.proofs.Kept.{end-present}
+use Rattle.model.proofs.CanonicalLaws.{canonical_lawful}
+use Rattle.model.proofs.Numbers.{element_name, element_number}
+use Rattle.model.proofs.Roles.{same_role_lem, below_turned, implies_lift}
+use Rattle.model.proofs.Steps.{some_index}
+use Rattle.model.proofs.Tests.{and_both, both_and}
+use Rattle.search.proofs.Joining.{View, view, joined, Bare, bare_parts, Extends, extends_parts, extends_made}
+use Rattle.search.proofs.Kept.{end_present}
 use Rattle.universal.specs.Universal.{Models, MarksFollow}
-use Rattle.universal.proofs.Partners.{partner-within, partner?}
+use Rattle.universal.proofs.Partners.{partner_within, partner?}
 
 module _ (facts : Fact → Bool) (rules : RuleSet) (s : Shape) (f : Form) (m : Models f.names facts rules s f) where
   abbrev element_at : ℕ → Element
@@ -39,22 +39,22 @@ module _ (facts : Fact → Bool) (rules : RuleSet) (s : Shape) (f : Form) (m : M
   Marks = HasMark f.names facts rules
 
   pub laws : Lawful s f
-  laws = canonical-lawful f.names facts rules s f m.facts_in m.proper m.decided m.completes
+  laws = canonical_lawful f.names facts rules s f m.facts_in m.proper m.decided m.completes
 
-  pub path-present : (x : Thing) → T (is_path f x) → Pres (element_at (end_of x))
-  path-present x h = (m.completes.present_is (end_of x)).0 (end-present s f laws x h)
+  pub path_present : (x : Thing) → T (is_path f x) → Pres (element_at (end_of x))
+  path_present x h = (m.completes.present_is (end_of x)).0 (end_present s f laws x h)
 
-  pub step-at : (d e : ℕ) (p : Thing) → T (is_path f (d ∷ (e ∷ p))) → Step (element_at e) (element_at d)
-  step-at d e p h = ((m.completes.steps_are e d).0 (and_both (f.step e d) _ h).0).1
+  pub step_at_lem : (d e : ℕ) (p : Thing) → T (is_path f (d ∷ (e ∷ p))) → Step (element_at e) (element_at d)
+  step_at_lem d e p h = ((m.completes.steps_are e d).0 (and_both (f.step e d) _ h).0).1
 
-  pub step-has : (R : Role) (c d : Element) → Step c d → By rules R d → Marks c (Mark.Has R)
-  step-has R c (Element.named b) t h = absurd t
-  step-has R (Element.named a) (Element.witness S j) t h = let g = t.0.1 in (g.0, g.1, implies-lift rules g.2 h)
-  step-has R (Element.witness U i) (Element.witness S j) t h = implies-lift rules t.0.0 h
+  pub step_has : (R : Role) (c d : Element) → Step c d → By rules R d → Marks c (Mark.Has R)
+  step_has R c (Element.named b) t h = absurd t
+  step_has R (Element.named a) (Element.witness S j) t h = let g = t.0.1 in (g.0, g.1, implies_lift rules g.2 h)
+  step_has R (Element.witness U i) (Element.witness S j) t h = implies_lift rules t.0.0 h
 
-  by-has : (R : Role) (d : Element) → By rules (inverse R) d → Marks d (Mark.Has R)
-  by-has R (Element.named b) h = absurd h
-  by-has R (Element.witness S j) h = implies-lift rules Star.here (below-turned rules h)
+  by_has : (R : Role) (d : Element) → By rules (inverse R) d → Marks d (Mark.Has R)
+  by_has R (Element.named b) h = absurd h
+  by_has R (Element.witness S j) h = implies_lift rules Star.here (below_turned rules h)
 
   -- an extension is a step by R
   pub stepped : (R : Role) (x y : Thing) (h : Extends s f R x y) → Step (element_at (end_of x)) (element_at h.last) × By rules R (element_at h.last)
@@ -65,9 +65,9 @@ module _ (facts : Fact → Bool) (rules : RuleSet) (s : Shape) (f : Form) (m : M
   -- two bare names that R joins: a link fact joins them by a role below R
   pub recorded : (R : Role) (x y : Thing) (h : Bare s f R x y) → (S : Role) × Recorded facts S (name_of h.from) (name_of h.to) × Below rules S R
   recorded R x y h =
-      named-only (subst₂ (Joined f.names facts rules R)
-      (element-name f.names (name_of h.from) h.from_in)
-      (element-name f.names (name_of h.to) h.to_in)
+      named_only (subst₂ (Joined f.names facts rules R)
+      (element_name f.names (name_of h.from) h.from_in)
+      (element_name f.names (name_of h.to) h.to_in)
       ((m.completes.joins_are R h.from h.to).0 h.join).2)
     where
       a : Name
@@ -76,20 +76,20 @@ module _ (facts : Fact → Bool) (rules : RuleSet) (s : Shape) (f : Form) (m : M
       b : Name
       b = name_of h.to
 
-      named-only : Joined f.names facts rules R (Element.named a) (Element.named b) → (S : Role) × Recorded facts S a b × Below rules S R
-      named-only (inl j) = j
-      named-only (inr (inl j)) = absurd j.0
-      named-only (inr (inr j)) = absurd j.0
+      named_only : Joined f.names facts rules R (Element.named a) (Element.named b) → (S : Role) × Recorded facts S a b × Below rules S R
+      named_only (inl j) = j
+      named_only (inr (inl j)) = absurd j.0
+      named_only (inr (inr j)) = absurd j.0
 
   -- x is a path at whose end the mark follows
   abbrev pub Follows : Mark → Thing → Type 0
   Follows C x = T (is_path f x) × Marks (element_at (end_of x)) C
 
-  pub marks-have : (C : Mark) (x : Thing) → Marked (unravelled s f) C x → Follows C x
-  marks-have (Mark.Is k) x h =
+  pub marks_have : (C : Mark) (x : Thing) → Marked (unravelled s f) C x → Follows C x
+  marks_have (Mark.Is k) x h =
       let g = and_both (is_path f x) _ h in
       (g.0, ((m.completes.kinds_are k (end_of x)).0 g.1).1)
-  marks-have (Mark.Has R) x h = go (view s f laws R x h.0 h.1)
+  marks_have (Mark.Has R) x h = go (view s f laws R x h.0 h.1)
     where
       y : Thing
       y = h.0
@@ -98,40 +98,40 @@ module _ (facts : Fact → Bool) (rules : RuleSet) (s : Shape) (f : Form) (m : M
       of_bare b =
           let r = recorded R x y b in
           let a : Name = name_of b.from in
-          let has : Marks (Element.named a) (Mark.Has R) = (Mark.Has r.0, Given.partner r.0 (name_of b.to) r.1, implies-lift rules Star.here r.2) in
-          subst (Follows (Mark.Has R)) (sym b.x-is)
-          (lt→ltb b.from f.names b.from_in, subst (λ z. Marks z (Mark.Has R)) (sym (element-name f.names a b.from_in)) has)
+          let has : Marks (Element.named a) (Mark.Has R) = (Mark.Has r.0, Given.partner r.0 (name_of b.to) r.1, implies_lift rules Star.here r.2) in
+          subst (Follows (Mark.Has R)) (sym b.x_is)
+          (lt→ltb b.from f.names b.from_in, subst (λ z. Marks z (Mark.Has R)) (sym (element_name f.names a b.from_in)) has)
 
       go : View s f R x y → Follows (Mark.Has R) x
       go (inl a) = of_bare (bare_parts s f R x y a)
-      go (inr (inl a)) = let e = extends-parts s f R x y a in let t = stepped R x y e in (e.old, step-has R _ _ t.0 t.1)
+      go (inr (inl a)) = let e = extends_parts s f R x y a in let t = stepped R x y e in (e.old, step_has R _ _ t.0 t.1)
       go (inr (inr a)) =
-          let e = extends-parts s f (inverse R) y x a in
+          let e = extends_parts s f (inverse R) y x a in
           let t = stepped (inverse R) y x e in
-          subst (Follows (Mark.Has R)) (sym e.y-is) (e.new, by-has R _ t.1)
+          subst (Follows (Mark.Has R)) (sym e.y_is) (e.new, by_has R _ t.1)
 
   -- the extension of a path to a witness
   pub grown : (x : Thing) (S : Role) (j : ℕ) → j < 3 → T (is_path f x) → Step (element_at (end_of x)) (Element.witness S j) → (R : Role) → Below rules S R
       → T (extends s f R x (number f.names (Element.witness S j) ∷ x))
   grown [] S j hj h t R b = absurd h
   grown (e ∷ p) S j hj h t R b =
-      extends-made s f R (e ∷ p) d h (both-and (f.step e d) _ st h) ((m.completes.by_is R e d).1 (st, subst (λ z. By rules R z) (sym en) b))
+      extends_made s f R (e ∷ p) d h (both_and (f.step e d) _ st h) ((m.completes.by_is R e d).1 (st, subst (λ z. By rules R z) (sym en) b))
     where
       d : ℕ
       d = number f.names (Element.witness S j)
 
       en : element_at d ≡ Element.witness S j
-      en = element-number f.names S j hj
+      en = element_number f.names S j hj
 
       st : T (f.step e d)
-      st = (m.completes.steps_are e d).1 (path-present (e ∷ p) h, subst (Step (element_at e)) (sym en) t)
+      st = (m.completes.steps_are e d).1 (path_present (e ∷ p) h, subst (Step (element_at e)) (sym en) t)
 
   -- two names that a link fact joins by a role below R
-  pub facts-joined : (R S : Role) (a b : Name) → Recorded facts S a b → Below rules S R → T (bare s f R (a.0 ∷ []) (b.0 ∷ []))
-  facts-joined R S a b r h = both-and (ltb a.0 f.names) _ la (both-and (ltb b.0 f.names) _ lb lk)
+  pub facts_joined : (R S : Role) (a b : Name) → Recorded facts S a b → Below rules S R → T (bare s f R (a.0 ∷ []) (b.0 ∷ []))
+  facts_joined R S a b r h = both_and (ltb a.0 f.names) _ la (both_and (ltb b.0 f.names) _ lb lk)
     where
       i : (a.0 < f.names) × (b.0 < f.names)
-      i = partner-within f.names facts m.facts_in S a b r
+      i = partner_within f.names facts m.facts_in S a b r
 
       la : T (ltb a.0 f.names)
       la = lt→ltb a.0 f.names i.0
@@ -142,21 +142,21 @@ module _ (facts : Fact → Bool) (rules : RuleSet) (s : Shape) (f : Form) (m : M
       lk : T (s.joins R a.0 b.0)
       lk =
           (m.completes.joins_are R a.0 b.0).1 (
-            path-present (a.0 ∷ []) la,
-            path-present (b.0 ∷ []) lb,
-            subst₂ (Joined f.names facts rules R) (sym (element-name f.names a i.0)) (sym (element-name f.names b i.1)) (inl (S, r, h)),
+            path_present (a.0 ∷ []) la,
+            path_present (b.0 ∷ []) lb,
+            subst₂ (Joined f.names facts rules R) (sym (element_name f.names a i.0)) (sym (element_name f.names b i.1)) (inl (S, r, h)),
           )
 
   -- a path that ends in a name: its partner is recorded, or a witness
-  from-name : (R : Role) (a : Name) → a.0 < f.names → Marks (Element.named a) (Mark.Has R) → Marked (unravelled s f) (Mark.Has R) (a.0 ∷ [])
-  from-name R a ha h =
+  from_name_lem : (R : Role) (a : Name) → a.0 < f.names → Marks (Element.named a) (Mark.Has R) → Marked (unravelled s f) (Mark.Has R) (a.0 ∷ [])
+  from_name_lem R a ha h =
       elim (partner? f.names facts m.facts_in R a) [
-        | yes p ↦ (p.0.0 ∷ [], joined s f laws R (a.0 ∷ []) (p.0.0 ∷ []) (inl (facts-joined R R a p.0 p.1 Star.here)))
+        | yes p ↦ (p.0.0 ∷ [], joined s f laws R (a.0 ∷ []) (p.0.0 ∷ []) (inl (facts_joined R R a p.0 p.1 Star.here)))
         | no n ↦ (
           d ∷ (a.0 ∷ []),
           joined s f laws R (a.0 ∷ []) (d ∷ (a.0 ∷ []))
               (inr (inl (grown (a.0 ∷ []) R 0 (omega arith) la
-              (subst (λ z. Step z (Element.witness R 0)) (sym (element-name f.names a ha)) ((ha, h, λ b r. n (b, r)), refl)) R Star.here))),
+              (subst (λ z. Step z (Element.witness R 0)) (sym (element_name f.names a ha)) ((ha, h, λ b r. n (b, r)), refl)) R Star.here))),
         )
       ]
     where
@@ -167,18 +167,18 @@ module _ (facts : Fact → Bool) (rules : RuleSet) (s : Shape) (f : Form) (m : M
       la = lt→ltb a.0 f.names ha
 
   -- a path that ends in a witness: its partner is where it was led to from, or another witness
-  from-witness : (R U : Role) (i : ℕ) (d e : ℕ) (p : Thing) → element_at d ≡ Element.witness U i → T (is_path f (d ∷ (e ∷ p))) → Implies rules (Mark.Has (inverse U)) (Mark.Has R)
+  from_witness : (R U : Role) (i : ℕ) (d e : ℕ) (p : Thing) → element_at d ≡ Element.witness U i → T (is_path f (d ∷ (e ∷ p))) → Implies rules (Mark.Has (inverse U)) (Mark.Has R)
       → Marked (unravelled s f) (Mark.Has R) (d ∷ (e ∷ p))
-  from-witness R U i d e p q h g =
-      elim (same-role R (inverse U)) [
+  from_witness R U i d e p q h g =
+      elim (same_role_lem R (inverse U)) [
         | yes t ↦ (
           e ∷ p,
           joined s f laws R (d ∷ (e ∷ p)) (e ∷ p)
-              (inr (inr (extends-made s f (inverse R) (e ∷ p) d st.1 h
-              ((m.completes.by_is (inverse R) e d).1 (st.0, subst (By rules (inverse R)) (sym q) (subst (Below rules U) (sym (turn-turn U) ∙ ap inverse (sym t)) Star.here)))))),
+              (inr (inr (extends_made s f (inverse R) (e ∷ p) d st.1 h
+              ((m.completes.by_is (inverse R) e d).1 (st.0, subst (By rules (inverse R)) (sym q) (subst (Below rules U) (sym (turn_turn U) ∙ ap inverse (sym t)) Star.here)))))),
         )
         | no n ↦
-            let x = some-index rules m.decided U i R ui in
+            let x = some_index rules m.decided U i R ui in
             let c = number f.names (Element.witness R x.0) in (
               c ∷ (d ∷ (e ∷ p)),
               joined s f laws R (d ∷ (e ∷ p)) (c ∷ (d ∷ (e ∷ p)))
@@ -190,19 +190,19 @@ module _ (facts : Fact → Bool) (rules : RuleSet) (s : Shape) (f : Form) (m : M
       st = and_both (f.step e d) _ h
 
       ui : i < 3
-      ui = (subst Pres q (path-present (d ∷ (e ∷ p)) h)).1
+      ui = (subst Pres q (path_present (d ∷ (e ∷ p)) h)).1
 
-  pub have-marks : (C : Mark) (x : Thing) → T (is_path f x) → Marks (element_at (end_of x)) C → Marked (unravelled s f) C x
-  have-marks (Mark.Is k) x h g = both-and (is_path f x) _ h ((m.completes.kinds_are k (end_of x)).1 (path-present x h, g))
-  have-marks (Mark.Has R) [] h g = absurd h
-  have-marks (Mark.Has R) (a ∷ []) h g =
+  pub have_marks : (C : Mark) (x : Thing) → T (is_path f x) → Marks (element_at (end_of x)) C → Marked (unravelled s f) C x
+  have_marks (Mark.Is k) x h g = both_and (is_path f x) _ h ((m.completes.kinds_are k (end_of x)).1 (path_present x h, g))
+  have_marks (Mark.Has R) [] h g = absurd h
+  have_marks (Mark.Has R) (a ∷ []) h g =
       let l = ltb→lt a f.names h in
-      from-name R (name_of a) l (subst (λ z. Marks z (Mark.Has R)) (element-name f.names (name_of a) l) g)
-  have-marks (Mark.Has R) (d ∷ (e ∷ p)) h g = go (element_at d) refl
+      from_name_lem R (name_of a) l (subst (λ z. Marks z (Mark.Has R)) (element_name f.names (name_of a) l) g)
+  have_marks (Mark.Has R) (d ∷ (e ∷ p)) h g = go (element_at d) refl
     where
       go : (c : Element) → element_at d ≡ c → Marked (unravelled s f) (Mark.Has R) (d ∷ (e ∷ p))
-      go (Element.named b) q = absurd (subst (Step (element_at e)) q (step-at d e p h))
-      go (Element.witness U i) q = from-witness R U i d e p q h (subst (λ z. Marks z (Mark.Has R)) q g)
+      go (Element.named b) q = absurd (subst (Step (element_at e)) q (step_at_lem d e p h))
+      go (Element.witness U i) q = from_witness R U i d e p q h (subst (λ z. Marks z (Mark.Has R)) q g)
 
-pub marks-follow : MarksFollow
-marks-follow facts rules s f m C x = (marks-have facts rules s f m C x, λ h. have-marks facts rules s f m C x h.0 h.1)
+pub marks_follow : MarksFollow
+marks_follow facts rules s f m C x = (marks_have facts rules s f m C x, λ h. have_marks facts rules s f m C x h.0 h.1)

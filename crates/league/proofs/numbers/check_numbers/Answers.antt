@@ -2,13 +2,13 @@ use Rattle.std.proofs.Common.{◌≡◌, ℕ, ◌+◌, ◌≤◌, drop, sym, ap,
 use Rattle.std.proofs.lemmas.Result.{err_from_is_err_and}
 use Rattle.league.specs.declared.questions.Atom.{Atom}
 use Rattle.league.specs.Filling.{numbers_checked, arguments_of}
-use Rattle.league.proofs.Checks.{numbers_more, numbers-refused, numbers-all}
+use Rattle.league.proofs.Checks.{numbers_more, numbers_refused, numbers_all}
 use Rattle.league.proofs.numbers.check_numbers.Goals as goal
 
 pub returns-in_err-check_atom : goal.returns-in_err-check_atom
 returns-in_err-check_atom c =
     let p = err_from_is_err_and c.from_residual.result c.from_residual.ensures.1
-    in let e = numbers-refused c.loop-atom.place c.args.atoms.now c.loop-atom.atom-index _ c.loop-atom-test.true _ c.in_err-check_atom.ensures
+    in let e = numbers_refused c.loop-atom.place c.args.atoms.now c.loop-atom.atom-index _ c.loop-atom-test.true _ c.in_err-check_atom.ensures
     in rw (p.1, p.2) (e ∙ c.loop-atom.invariant.1)
 
 -- an atom has at most three arguments
@@ -25,4 +25,4 @@ loop-atom-preserved c =
     )
 
 pub returns : goal.returns
-returns c = sym (numbers-all c.loop-atom.place c.args.atoms.now c.loop-atom.atom-index c.loop-atom-test.false) ∙ c.loop-atom.invariant.1
+returns c = sym (numbers_all c.loop-atom.place c.args.atoms.now c.loop-atom.atom-index c.loop-atom-test.false) ∙ c.loop-atom.invariant.1

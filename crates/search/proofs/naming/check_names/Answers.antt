@@ -3,13 +3,13 @@ use Rattle.std.proofs.lemmas.Result.{err_from_is_err_and}
 use Rattle.league.specs.declared.questions.Atom.{Atom}
 use Rattle.league.specs.Filling.{arguments_of}
 use Rattle.search.specs.Finding.{names_checked}
-use Rattle.search.proofs.NamesInOrder.{names_more, names-refused, names-all}
+use Rattle.search.proofs.NamesInOrder.{names_more, names_refused, names_all}
 use Rattle.search.proofs.naming.check_names.Goals as goal
 
 pub returns-in_err-check_atom : goal.returns-in_err-check_atom
 returns-in_err-check_atom c =
     let p = err_from_is_err_and c.from_residual.result c.from_residual.ensures.1
-    in let e = names-refused c.args.names c.loop-atom.place c.args.atoms.now c.loop-atom.atom-index _ c.loop-atom-test.true _ c.in_err-check_atom.ensures
+    in let e = names_refused c.args.names c.loop-atom.place c.args.atoms.now c.loop-atom.atom-index _ c.loop-atom-test.true _ c.in_err-check_atom.ensures
     in rw (p.1, p.2) (e ∙ c.loop-atom.invariant.1)
 
 -- an atom has at most three arguments
@@ -27,4 +27,4 @@ loop-atom-preserved c =
 
 pub returns : goal.returns
 returns c =
-    sym (names-all c.args.names c.loop-atom.place c.args.atoms.now c.loop-atom.atom-index c.loop-atom-test.false) ∙ c.loop-atom.invariant.1
+    sym (names_all c.args.names c.loop-atom.place c.args.atoms.now c.loop-atom.atom-index c.loop-atom-test.false) ∙ c.loop-atom.invariant.1

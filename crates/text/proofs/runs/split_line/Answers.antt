@@ -1,12 +1,12 @@
 use Rattle.std.proofs.Common.{[], arith, length-drop, length-take}
-use Rattle.text.proofs.Cuts.{lines-last, cut_parts}
+use Rattle.text.proofs.Cuts.{lines_last, cut_parts}
 use Rattle.text.proofs.runs.split_line.Goals as goal
 
 pub returns-then-end-text : goal.returns-then-end-text
 returns-then-end-text c =
     let e = c.find_byte-end.ensures.value in
     let t = c.if-end-text.true in
-    record { lines = lines-last c.args.text.now c.requires (omega arith); shorter = c.requires }
+    record { lines = lines_last c.args.text.now c.requires (omega arith); shorter = c.requires }
 
 pub returns : goal.returns
 returns c =

@@ -1,5 +1,5 @@
 use Rattle.std.proofs.Common.{◌∙◌}
-use Rattle.league.proofs.Acceptance.{proper-accepted}
+use Rattle.league.proofs.Acceptance.{proper_accepted}
 use Rattle.league.proofs.question.Question.fill.Goals as goal
 
 pub returns : goal.returns
@@ -7,5 +7,5 @@ returns c =
     record {
       result = c.replace.ensures.result;
       question = c.replace.ensures.question;
-      proper = λ p. c.replace.ensures.result ∙ proper-accepted c.args.answers c.args.atoms.now p;
+      proper = λ p. c.replace.ensures.result ∙ proper_accepted c.args.answers c.args.atoms.now p;
     }

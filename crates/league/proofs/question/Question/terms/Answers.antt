@@ -1,9 +1,9 @@
 use Rattle.league.specs.Asked.{atoms_of}
-use Rattle.league.proofs.Acceptance.{accepted-proper}
+use Rattle.league.proofs.Acceptance.{accepted_proper}
 use Rattle.league.proofs.Order.{in_order}
 use Rattle.league.proofs.question.Question.terms.Goals as goal
 
 pub returns : goal.returns
 returns c =
     let q = c.args.self.now
-    in record { own = c.filled_terms.ensures; ordered = in_order q.answers (atoms_of q) (accepted-proper q.answers (atoms_of q) q.accepted) }
+    in record { own = c.filled_terms.ensures; ordered = in_order q.answers (atoms_of q) (accepted_proper q.answers (atoms_of q) q.accepted) }

@@ -1,5 +1,5 @@
 use Rattle.std.proofs.Common.{refl}
-use Rattle.model.proofs.Built.{built-few, built-right, built-whole, built-clash}
+use Rattle.model.proofs.Built.{built_few, built_right, built_whole, built_clash}
 use Rattle.model.proofs.canonical.CanonicalModel.new.Goals as goal
 
 pub invariant_of-result : goal.invariant_of-result
@@ -8,8 +8,8 @@ invariant_of-result g c =
     let h = g.S.Store.means store in
     let e = c.tables_of-tables.ensures in
     record {
-      few = built-few h (g.S.Store.sound store) c.args.rules.now c.tables_of-tables.result c.args.consequences.now e.same c.requires e.made;
-      right = ∣ built-right h (g.S.Store.sound store) c.args.rules.now c.tables_of-tables.result c.args.consequences.now e.same c.requires e.made ∣₁;
+      few = built_few h (g.S.Store.sound store) c.args.rules.now c.tables_of-tables.result c.args.consequences.now e.same c.requires e.made;
+      right = ∣ built_right h (g.S.Store.sound store) c.args.rules.now c.tables_of-tables.result c.args.consequences.now e.same c.requires e.made ∣₁;
     }
 
 pub returns : goal.returns
@@ -19,6 +19,6 @@ returns g c =
     record {
       store = refl;
       rules = refl;
-      whole = built-whole (g.S.Store.means store) (g.S.Store.sound store) c.args.rules.now c.tables_of-tables.result c.args.consequences.now e.same c.requires e.made;
-      clash = built-clash (g.S.Store.means store) (g.S.Store.sound store) c.args.rules.now c.tables_of-tables.result c.args.consequences.now e.same c.requires e.made;
+      whole = built_whole (g.S.Store.means store) (g.S.Store.sound store) c.args.rules.now c.tables_of-tables.result c.args.consequences.now e.same c.requires e.made;
+      clash = built_clash (g.S.Store.means store) (g.S.Store.sound store) c.args.rules.now c.tables_of-tables.result c.args.consequences.now e.same c.requires e.made;
     }

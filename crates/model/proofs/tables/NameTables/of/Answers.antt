@@ -1,9 +1,9 @@
 use Rattle.std.proofs.Common.{arith}
-use Rattle.model.proofs.TableRows.{names-none, names_more}
+use Rattle.model.proofs.TableRows.{names_none, names_more}
 use Rattle.model.proofs.tables.NameTables.of.Goals as goal
 
 pub loop-name-init : goal.loop-name-init
-loop-name-init g c = names-none _ _ _ _
+loop-name-init g c = names_none _ _ _ _
 
 pub loop-name-preserved : goal.loop-name-preserved
 loop-name-preserved g c =

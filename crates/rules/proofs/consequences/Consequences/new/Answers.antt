@@ -1,8 +1,8 @@
 use Rattle.rules.specs.Tables.{means}
 use Rattle.rules.proofs.Followed.{decided}
-use Rattle.rules.proofs.Kept.{table-proper}
+use Rattle.rules.proofs.Kept.{table_proper}
 use Rattle.rules.proofs.consequences.Consequences.new.Goals as goal
 
 pub returns : goal.returns
 returns c =
-    decided (means c.args.table.now) (table-proper c.args.table.now) (record { roles = c.role_table-roles.result; marks = c.mark_table-marks.result }) c.role_table-roles.ensures c.mark_table-marks.ensures
+    decided (means c.args.table.now) (table_proper c.args.table.now) (record { roles = c.role_table-roles.result; marks = c.mark_table-marks.result }) c.role_table-roles.ensures c.mark_table-marks.ensures

@@ -1,5 +1,5 @@
 use Rattle.std.proofs.Common.{◌≡◌, ◌<◌, length, ◌∙◌, arith, length-set, rules}
-use Rattle.rules.proofs.Flagged.{wide-put, flag-put}
+use Rattle.rules.proofs.Flagged.{wide_put, flag-put}
 use Rattle.rules.proofs.flags.Flags.put.Goals as goal
 
 pub invariant_of-self : goal.invariant_of-self
@@ -8,7 +8,7 @@ invariant_of-self g c =
     let long : length c.args.flags ≡ g.row.COLUMNS = search rules in
     record {
       tall = length-set c.args.self.now.cells c.args.row c.args.flags ∙ c.args.self.now.tall;
-      wide = λ i h. wide-put c.args.self.now.cells c.args.row c.args.flags l g.row.COLUMNS i long (c.args.self.now.wide i h);
+      wide = λ i h. wide_put c.args.self.now.cells c.args.row c.args.flags l g.row.COLUMNS i long (c.args.self.now.wide i h);
     }
 
 pub returns : goal.returns

@@ -1,5 +1,5 @@
 use Rattle.std.proofs.Common.{◌<◌, [], length, get_or, ◌∙◌, arith, length-set, rules}
-use Rattle.rules.proofs.Flagged.{flag-set, wide-set}
+use Rattle.rules.proofs.Flagged.{flag-set, wide_set}
 use Rattle.rules.proofs.flags.Flags.set.Goals as goal
 
 pub invariant_of-self : goal.invariant_of-self
@@ -7,7 +7,7 @@ invariant_of-self g c =
     let rows : c.args.row < length c.args.self.now.cells = search rules in
     record {
       tall = length-set c.args.self.now.cells c.args.row _ ∙ c.args.self.now.tall;
-      wide = λ i l. wide-set c.args.self.now.cells c.args.row c.args.column i rows ∙ c.args.self.now.wide i l;
+      wide = λ i l. wide_set c.args.self.now.cells c.args.row c.args.column i rows ∙ c.args.self.now.wide i l;
     }
 
 pub returns : goal.returns

@@ -3,14 +3,14 @@ use Rattle.league.specs.declared.rules.Rule.TheVariants.{Inclusion}
 use Rattle.rules.specs.Codes.{mark_of}
 use Rattle.rules.specs.Steps.{needs_hidden, lands_hidden, lifts_role, entry_of}
 use Rattle.rules.specs.Tables.{means}
-use Rattle.rules.proofs.MarkRows.{or-chain}
+use Rattle.rules.proofs.MarkRows.{or_chain}
 use Rattle.rules.proofs.mark_graph.MarkGraphGraph.add_successors.Goals as goal
 
 pub returns : goal.returns
 returns c k l =
     let s = means c.args.self.now.table.now in
     let B = mark_of c.args.node in
-    or-chain
+    or_chain
     (get_or c.args.set.now k false)
     (s.rules (Inclusion B (mark_of k)))
     (needs_hidden s B (mark_of k))

@@ -1,10 +1,10 @@
 use Rattle.std.proofs.Common.{sym, refl, ◌∙◌, arith, length-set}
-use Rattle.text.proofs.Pages.{pasted-none, pasted-more}
+use Rattle.text.proofs.Pages.{pasted_none, pasted_more}
 use Rattle.text.proofs.page.OutputPage.put.Goals as goal
 
 pub loop-i-init : goal.loop-i-init
 loop-i-init c =
-    (refl, refl, refl, refl, sym (pasted-none c.args.self.now.bytes.now c.args.self.now.written c.args.line.now.bytes))
+    (refl, refl, refl, refl, sym (pasted_none c.args.self.now.bytes.now c.args.self.now.written c.args.line.now.bytes))
 
 pub loop-i-preserved : goal.loop-i-preserved
 loop-i-preserved c =
@@ -14,5 +14,5 @@ loop-i-preserved c =
       inv.1,
       inv.2,
       length-set _ _ _ ∙ inv.3,
-      rw (inv.4, inv.1) (pasted-more c.args.self.now.bytes.now c.args.self.now.written c.args.line.now.bytes x.i (omega arith) (omega arith)),
+      rw (inv.4, inv.1) (pasted_more c.args.self.now.bytes.now c.args.self.now.written c.args.line.now.bytes x.i (omega arith) (omega arith)),
     )
