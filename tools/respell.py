@@ -12,6 +12,7 @@ CAMEL = re.compile(r"(?<![A-Za-z0-9_'\\])([a-z][a-z0-9_]*(?:(?<=[a-z0-9])[A-Z][A
 TEXT = re.compile(r'b?"(?:[^"\\]|\\.)*"')
 TOKEN = re.compile(r"(?<![A-Za-z0-9_'-])[A-Za-z][A-Za-z0-9_]*(?:-[A-Za-z0-9_]+)*'?(?![A-Za-z0-9_'-])")
 DECLARED = re.compile(r"^(\s*)((?:abbrev |unfoldable |pub |record |data )*)([^\s:(){}=;,]+)(?: \([^)]*\)| \{[^}]*\})* :(?: |$)")
+FUNCTION = re.compile(r"\bfn ([a-z_0-9]+)")
 MADE = re.compile(r"^use \S+\.(?:Goals|Given)\.\{([^}]*)\}")
 # names of definitions of the library that begin or end a lemma's name
 DEFINED = {"length", "take", "drop", "set", "replicate", "cond", "not", "and", "or", "T", "nth"}
@@ -84,6 +85,8 @@ class Names:
         for path, text in texts.items():
             if path.endswith(".antt"):
                 self.read(text, is_answer(path))
+            else:
+                self.used.update(FUNCTION.findall(text))
 
     def read(self, text, answer):
         inside = None
@@ -93,7 +96,7 @@ class Names:
                 inside = None
             self.used.update(m.group(0) for m in TOKEN.finditer(line) if line[m.start() - 1:m.start()] != ".")
             found = DECLARED.match(line)
-            if not found or (answer and ": goal." in line):
+            if not found or (answer and line[found.end():].startswith("goal.")):
                 continue
             marks, name = found.group(2), found.group(3)
             if "record " in marks or "data " in marks:
@@ -139,7 +142,7 @@ def undashed(path, text, turned):
             found = MADE.match(line)
             made.update(name.strip() for name in found.group(1).split(",")) if found else None
             found = DECLARED.match(line)
-            made.update([found.group(3)] if found and ": goal." in line else [])
+            made.update([found.group(3)] if found and line[found.end():].startswith("goal.") else [])
 
     def turn(match):
         name = match.group(0)

@@ -106,8 +106,8 @@ module _ (facts : Fact → Bool) (rules : RuleSet) (s : Shape) (f : Form) (insid
   next_present : (d e : ℕ) → T (s.present d) → T (f.step d e) → T (s.present e)
   next_present d e p t = (whole.present_is e).1 (step_present_lem f.names facts rules (element_at d) (element_at e) (pres d p) (steps d e t))
 
-  steps_by : (R : Role) (d e : ℕ) → StepsBy f R d e → Step (element_at d) (element_at e) × By rules R (element_at e)
-  steps_by R d e h = (steps d e h.0, ((whole.by_is R d e).0 h.1).1)
+  steps_by_lem : (R : Role) (d e : ℕ) → StepsBy f R d e → Step (element_at d) (element_at e) × By rules R (element_at e)
+  steps_by_lem R d e h = (steps d e h.0, ((whole.by_is R d e).0 h.1).1)
 
   by_steps : (R : Role) (d e : ℕ) → T (s.present d) → Step (element_at d) (element_at e) → By rules R (element_at e) → StepsBy f R d e
   by_steps R d e p t b = let u = (whole.steps_are d e).1 (pres d p, t) in (u, (whole.by_is R d e).1 (u, b))
@@ -133,11 +133,11 @@ module _ (facts : Fact → Bool) (rules : RuleSet) (s : Shape) (f : Form) (insid
     joins_back = λ R d e. same_test _ _ (λ h. subst (λ S. T (s.joins S d e)) (turn_turn R) (joins_back_lem (inverse R) e d h)) (joins_back_lem R d e);
     step_present = next_present;
     joined_by_step = λ R d e p q h. join_step R d e p q ((whole.joins_are R d e).0 h).2;
-    step_joins = λ R d e p h. (whole.joins_are R d e).1 (pres d p, pres e (next_present d e p h.0), inr (inl (steps_by R d e h)));
+    step_joins = λ R d e p h. (whole.joins_are R d e).1 (pres d p, pres e (next_present d e p h.0), inr (inl (steps_by_lem R d e h)));
     step_to_no_name = λ d e p h. far d e (steps d e h);
     no_step_back = λ R d e p q h t.
-        let a = steps_by R d e h in
-        let b = steps_by (inverse R) e d t in
+        let a = steps_by_lem R d e h in
+        let b = steps_by_lem (inverse R) e d t in
         no_step_back_lem f.names facts rules R (element_at d) (element_at e) (pres d p) (pres e q) a.0 a.1 b.0 b.1;
     reached = reached_at;
   }

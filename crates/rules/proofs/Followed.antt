@@ -75,8 +75,8 @@ module _ (s : RuleSet) (proper : Proper s) where
         let f = edge_fits s proper e in
         (subst (λ (Q : Role). T (role_gives s (role_of (code R)) Q)) (sym (role_of_code S)) g, code_below S 64 f.1)
 
-    pub role_table : (R S : Role) → RoleFits R → Tells (flag rows (code R) (code S)) (Below s R S)
-    role_table R S f =
+    pub role_table_lem : (R S : Role) → RoleFits R → Tells (flag rows (code R) (code S)) (Below s R S)
+    role_table_lem R S f =
         let t = table (code R) (code S) (code_below R 64 f) in
         record {
           sound = λ h. from_codes R S (t.sound h);
@@ -112,8 +112,8 @@ module _ (s : RuleSet) (proper : Proper s) where
         then here (subst (λ (D : Mark). T (mark_gives s below (mark_of (mark_code B)) D)) (sym (mark_of_code C w.1)) g, mark_code-below C w.1))
         (mark_edge_gives s proper below complete e)
 
-    pub mark_table : (B C : Mark) → MarkFits B → MarkFits C → Tells (flag rows (mark_code B) (mark_code C)) (Implies s B C)
-    mark_table B C f g =
+    pub mark_table_lem : (B C : Mark) → MarkFits B → MarkFits C → Tells (flag rows (mark_code B) (mark_code C)) (Implies s B C)
+    mark_table_lem B C f g =
         let t = table (mark_code B) (mark_code C) (mark_code-below B f) in
         record {
           sound = λ h. from_mark_codes B C f g (t.sound h);
@@ -138,7 +138,7 @@ module _ (s : RuleSet) (proper : Proper s) (c : Consequences) where
     told_below_lem : (R S : Role) → Tells (told_below c R S) (Below s R S)
     told_below_lem R S =
         told (Below s) R S (role_listed R && role_listed S) (entry_below R S) (same_role R S) (λ a. here)
-        (λ e. role_table s proper c.roles.cells roles R S (role_listed_lem R S e).0)
+        (λ e. role_table_lem s proper c.roles.cells roles R S (role_listed_lem R S e).0)
         (role_eq R S)
         (λ e. subst (λ (Q : Role). same_role R Q ≡ true) e (role_self R))
         (λ o p.
@@ -155,7 +155,7 @@ module _ (s : RuleSet) (proper : Proper s) (c : Consequences) where
     mark_listed_lem (Has R) e = ltb-true (link_of R).0 64 e
 
     whole : (R S : Role) → RoleFits R → RoleFits S → Below s R S → T (entry_below R S)
-    whole R S f g p = (role_table s proper c.roles.cells roles R S f).complete p
+    whole R S f g p = (role_table_lem s proper c.roles.cells roles R S f).complete p
 
     implies_fits : (B C : Mark) → Implies s B C → (B ≡ C) ⊎ (MarkFits B × MarkFits C)
     implies_fits B C p =
@@ -166,7 +166,7 @@ module _ (s : RuleSet) (proper : Proper s) (c : Consequences) where
         told (Implies s) B C (mark_listed B && mark_listed C) (flag c.marks.cells (mark_code B) (mark_code C)) (same_mark B C) (λ a. here)
         (λ e.
         let w = and_parts (mark_listed B) (mark_listed C) e in
-        mark_table s proper entry_below (role_entry s proper c.roles.cells roles c.roles.tall) whole c.marks.cells marks B C (mark_listed_lem B w.0) (mark_listed_lem C w.1))
+        mark_table_lem s proper entry_below (role_entry s proper c.roles.cells roles c.roles.tall) whole c.marks.cells marks B C (mark_listed_lem B w.0) (mark_listed_lem C w.1))
         (mark_eq B C)
         (λ e. subst (λ (D : Mark). same_mark B D ≡ true) e (mark_self B))
         (λ o p.

@@ -44,8 +44,8 @@ module _ (t : RuleTable) (i k : ℕ) where
   role_rule = rw (role_within-code i, role_within-code k, code_role i, code_role k) refl
 
   -- the row of a role that rules may name
-  pub role_row : i < 64 → flag t.roles.cells i k ≡ role_step (means t) i k
-  role_row l =
+  pub role_row_lem : i < 64 → flag t.roles.cells i k ≡ role_step (means t) i k
+  role_row_lem l =
       sym
       (rw (role_rule, lt-ltb i 64 l, low_hidden (means t) (role_of i) (role_of k) (link_below i 32 l))
       (⊎_elim

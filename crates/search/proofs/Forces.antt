@@ -53,9 +53,9 @@ module _ (down : List Bool) where
         in flag_made same i i h h (d (8 * i + i) (omega arith) ∙ eq-eqb ((8 * i + i) / 8) ((8 * i + i) % 8) (q ∙ sym r));
   }
 
-  forced_now : (same : List Bool) → Flagged same → (i j : ℕ) → ForcedNow (flag_at down) (flag_at same) i j → Forced (flag_at down) i j
-  forced_now same f i j (inl m) = Forced.onward i m.0 j (f.sound i m.0 m.2) (f.sound m.0 j m.3)
-  forced_now same f i j (inr m) =
+  forced_now_lem : (same : List Bool) → Flagged same → (i j : ℕ) → ForcedNow (flag_at down) (flag_at same) i j → Forced (flag_at down) i j
+  forced_now_lem same f i j (inl m) = Forced.onward i m.0 j (f.sound i m.0 m.2) (f.sound m.0 j m.3)
+  forced_now_lem same f i j (inr m) =
       Forced.above i j m.0 m.3.0 (f.sound m.0 m.3.0 m.3.3) (holds _ m.2) (holds _ m.3.2)
 
   pub flagged_more : (same : List Bool) (p : ℕ) → Flagged same → p < 64 → ForcedNow (flag_at down) (flag_at same) (p / 8) (p % 8) → Flagged (set same p true)
@@ -66,7 +66,7 @@ module _ (down : List Bool) where
         in ⊎_elim
         (λ q. let r : p / 8 ≡ i = omega (arith, a.0, a.1)
         in let m : p % 8 ≡ j = omega (arith, a.0, a.1)
-        in subst (λ b. Forced (flag_at down) i b) m (subst (λ b. Forced (flag_at down) b (p % 8)) r (forced_now same f (p / 8) (p % 8) now)))
+        in subst (λ b. Forced (flag_at down) i b) m (subst (λ b. Forced (flag_at down) b (p % 8)) r (forced_now_lem same f (p / 8) (p % 8) now)))
         (λ ne. f.sound i j (flag_made same i j a.0 a.1 (sym (get_or-set_other same p (8 * i + j) true false ne) ∙ a.2)))
         (cases_eq (8 * i + j) p);
     own = λ i l. flag_made (set same p true) i i l l (kept i l);

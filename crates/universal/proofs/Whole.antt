@@ -11,7 +11,7 @@ use Rattle.model.specs.Canonical.{Clash}
 use Rattle.model.specs.Structures.{Shape, Form}
 use Rattle.model.specs.Unravelled.{unravelled}
 use Rattle.search.specs.Matches.{KeptRow, RowBelow}
-use Rattle.search.proofs.Kept.{kept_rows_hold}
+use Rattle.search.proofs.Kept.{kept_rows_hold_lem}
 use Rattle.universal.specs.Universal.{Certain, Models, CertainIsKept, NoneFitsIsClash}
 use Rattle.universal.proofs.Fitting.{unravelled-fits}
 use Rattle.universal.proofs.HiddenLinks.{clash_fits_none}
@@ -40,7 +40,7 @@ module _ (facts : Fact → Bool) (rules : RuleSet) (s : Shape) (f : Form) where
   kept_here : KeptOver f.names
   kept_here m calm k atoms proper row below =
       let found = certain_holds m calm k atoms proper row below in
-      let kept = kept_rows_hold s f (laws facts rules s f m) k atoms proper row below in
+      let kept = kept_rows_hold_lem s f (laws facts rules s f m) k atoms proper row below in
       (λ c. kept.0 (found.0 c), λ h. found.1 (kept.1 h))
 
   abbrev NoneOver : ℕ → Type 0

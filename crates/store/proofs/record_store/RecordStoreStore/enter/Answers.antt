@@ -12,8 +12,8 @@ abbrev means : RecordStore → Holding
 means r = held r.names r.records.now r.len
 
 -- the answer on the way where the fact is new
-answered-new : (c : goal.In-New) → reply (means c.args.self.now) c.args.fact ≡ Ok New
-answered-new c =
+answered_new : (c : goal.In-New) → reply (means c.args.self.now) c.args.fact ≡ Ok New
+answered_new c =
     was_new (means c.args.self.now) c.args.fact _ _ _ _ c.has-known.ensures c.count.ensures c.limit.ensures
     c.in_ok-entry.ensures c.in-New.is
 
@@ -22,7 +22,7 @@ has_room_lem : (c : goal.In-New) → c.args.self.now.len < min (length c.args.se
 has_room_lem c =
     let r = c.args.self.now in
     room_left r.names r.records.now r.len r.room r.good
-    (ltb-true (count (means r)) (means r).limit (new_reply (means r) c.args.fact (answered-new c)).space)
+    (ltb-true (count (means r)) (means r).limit (new_reply (means r) c.args.fact (answered_new c)).space)
 
 pub bounds-self-self : goal.bounds-self-self
 bounds-self-self c = omega (arith, has_room_lem c)
@@ -31,7 +31,7 @@ pub invariant_of-self : goal.invariant_of-self
 invariant_of-self c =
     let r = c.args.self.now in
     let h = has_room_lem c in
-    let n = new_reply (means r) c.args.fact (answered-new c) in
+    let n = new_reply (means r) c.args.fact (answered_new c) in
     record {
       few = r.few;
       room = rw length-set (omega arith);
