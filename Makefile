@@ -17,6 +17,6 @@ test:
 compare: program
 	python3 compare/check.py crates/register/out/register
 
-# everything from nothing
+# the gate: proofs, edits that must be refused, programs and their output
 gate:
 	.ci/run
