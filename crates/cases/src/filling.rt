@@ -1,20 +1,8 @@
 //! Questions that are filled, and those that are refused.
 use league::facts::{Kind, Link, Name};
-use league::faults::BookFault;
 use league::question::Question;
 use league::questions::{Atom, Term};
 use league::roles::Role;
-
-/// The place that a refusal tells, or 0.
-fn place(fault: BookFault) -> u16 {
-    match fault {
-        BookFault::Kind(place)
-        | BookFault::Link(place)
-        | BookFault::Name(place)
-        | BookFault::Variable(place) => place.0,
-        _ => 0,
-    }
-}
 
 /// Fills a question and prints what came of it, and what the question then has.
 fn show(rt: &HostRuntime, title: &str, answers: u16, atoms: &[Atom]) -> anyhow::Result<()> {
@@ -23,7 +11,7 @@ fn show(rt: &HostRuntime, title: &str, answers: u16, atoms: &[Atom]) -> anyhow::
         Ok(()) => println!(rt; "# {title}: ok")?,
         Err(fault) => {
             let number = fault.number();
-            let place = place(fault);
+            let place = fault.place().map_or(0, |place| place.0);
             println!(rt; "# {title}: {number} at {place}")?;
         }
     }
@@ -34,84 +22,84 @@ fn show(rt: &HostRuntime, title: &str, answers: u16, atoms: &[Atom]) -> anyhow::
     Ok(())
 }
 
+/// Shows each question: a title, the number of answer variables, and the atoms.
+fn show_all(rt: &HostRuntime, cases: &[(&str, u16, &[Atom])]) -> anyhow::Result<()> {
+    for (title, answers, atoms) in cases {
+        show(rt, title, *answers, atoms)?;
+    }
+    Ok(())
+}
+
+/// A kind with a variable.
 fn is(kind: u16, variable: u16) -> Atom {
     Atom::Is(Kind(kind), Term::Variable(variable))
 }
 
+/// A kind with a name.
 fn of(kind: u16, name: u16) -> Atom {
     Atom::Is(Kind(kind), Term::Name(Name(name)))
 }
 
+/// A link read backward with two terms.
 fn joins(link: u16, from: Term, to: Term) -> Atom {
     Atom::Joins(Role::Backward(Link(link)), from, to)
 }
 
 /// How many atoms and answer variables there may be.
 fn counts(rt: &HostRuntime) -> anyhow::Result<()> {
-    show(rt, "sixteen atoms", 1, &[is(1, 0); 16])?;
-    show(rt, "seventeen atoms", 1, &[is(1, 0); 17])?;
-    show(rt, "seventeen atoms, one out of range", 1, &[is(64, 0); 17])?;
-    show(rt, "no atom", 0, &[])?;
-    show(rt, "k = 4", 4, &[is(1, 0), is(1, 1), is(1, 2), is(63, 3)])?;
-    show(rt, "k = 5", 5, &[is(64, 0)])?;
-    show(rt, "k = 65535", 65_535, &[is(1, 0)])
+    let cases: [(&str, u16, &[Atom]); 7] = [
+        ("sixteen atoms", 1, &[is(1, 0); 16]),
+        ("seventeen atoms", 1, &[is(1, 0); 17]),
+        ("seventeen atoms, one out of range", 1, &[is(64, 0); 17]),
+        ("no atom", 0, &[]),
+        ("k = 4", 4, &[is(1, 0), is(1, 1), is(1, 2), is(63, 3)]),
+        ("k = 5", 5, &[is(64, 0)]),
+        ("k = 65535", 65_535, &[is(1, 0)]),
+    ];
+    show_all(rt, &cases)
 }
 
 /// Which numbers and terms an atom may have.
 fn numbers(rt: &HostRuntime) -> anyhow::Result<()> {
-    show(rt, "v8", 0, &[is(63, 7), is(63, 8)])?;
-    show(
-        rt,
-        "name 1024",
-        0,
-        &[
-            of(1, 1023),
-            joins(31, Term::Variable(0), Term::Name(Name(1024))),
-        ],
-    )?;
-    show(
-        rt,
-        "link 32 before name 1024",
-        0,
-        &[joins(32, Term::Name(Name(1024)), Term::Variable(9))],
-    )?;
-    show(
-        rt,
-        "nine terms",
-        1,
-        &[
-            is(1, 1),
-            is(1, 2),
-            is(1, 3),
-            is(1, 4),
-            is(1, 5),
-            is(1, 6),
-            is(1, 7),
-            of(1, 0),
-            of(1, 1),
-        ],
-    )?;
-    show(
-        rt,
-        "eight terms",
-        1,
-        &[
-            is(1, 1),
-            is(1, 2),
-            is(1, 3),
-            is(1, 4),
-            is(1, 5),
-            is(1, 6),
-            is(1, 0),
-            of(1, 0),
-        ],
-    )?;
-    show(
-        rt,
-        "an answer variable in no atom",
-        2,
-        &[is(1, 0), is(1, 2)],
-    )
+    let v0 = Term::Variable(0);
+    let v9 = Term::Variable(9);
+    let n1024 = Term::Name(Name(1024));
+    let cases: [(&str, u16, &[Atom]); 6] = [
+        ("v8", 0, &[is(63, 7), is(63, 8)]),
+        ("name 1024", 0, &[of(1, 1023), joins(31, v0, n1024)]),
+        ("link 32 before name 1024", 0, &[joins(32, n1024, v9)]),
+        (
+            "nine terms",
+            1,
+            &[
+                is(1, 1),
+                is(1, 2),
+                is(1, 3),
+                is(1, 4),
+                is(1, 5),
+                is(1, 6),
+                is(1, 7),
+                of(1, 0),
+                of(1, 1),
+            ],
+        ),
+        (
+            "eight terms",
+            1,
+            &[
+                is(1, 1),
+                is(1, 2),
+                is(1, 3),
+                is(1, 4),
+                is(1, 5),
+                is(1, 6),
+                is(1, 0),
+                of(1, 0),
+            ],
+        ),
+        ("an answer variable in no atom", 2, &[is(1, 0), is(1, 2)]),
+    ];
+    show_all(rt, &cases)
 }
 
 pub(crate) fn all(rt: &HostRuntime) -> anyhow::Result<()> {

@@ -6,6 +6,11 @@ mod lines;
 mod stores;
 mod texts;
 
+use league::facts::{Fact, Kind, Name};
+
+/// What lent records hold before a store is opened over them: any fact.
+const BLANK: Fact = Fact::Is(Kind(0), Name(0));
+
 fn main(rt: HostRuntime) -> anyhow::Result<()> {
     lines::all(&rt)?;
     stores::all(&rt)?;

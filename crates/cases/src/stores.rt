@@ -1,19 +1,23 @@
 //! Stores as they are opened, and what they answer.
+use crate::BLANK;
 use league::facts::{Entry, Fact, Kind, Link, Name};
 use league::faults::StoreFault;
+use std::fmt;
 use store::bits::BitStore;
 use store::contract::Store;
 use store::records::RecordStore;
 
 /// What an entry returned.
-fn word(outcome: Result<Entry, StoreFault>) -> &'static str {
-    match outcome {
-        Ok(Entry::New) => "ok",
-        Ok(Entry::Known) => "known",
-        Err(StoreFault::Kind(_)) => "1",
-        Err(StoreFault::Link(_)) => "2",
-        Err(StoreFault::Name(_)) => "3",
-        Err(StoreFault::Full) => "4",
+#[derive(Clone, Copy)]
+struct Outcome(Result<Entry, StoreFault>);
+
+impl fmt::Display for Outcome {
+    fn fmt<W: fmt::Write>(&self, f: &mut fmt::Formatter<W>) -> fmt::Result {
+        match self.0 {
+            Ok(Entry::New) => write!(f, "ok"),
+            Ok(Entry::Known) => write!(f, "known"),
+            Err(fault) => write!(f, "{}", fault.number()),
+        }
     }
 }
 
@@ -30,26 +34,26 @@ fn tell<S: Store>(rt: &HostRuntime, title: &str, store: &S) -> anyhow::Result<()
 fn enter<S: Store>(rt: &HostRuntime, store: &mut S) -> anyhow::Result<()> {
     let kind = Fact::Is(Kind(63), Name(1));
     let link = Fact::Joins(Link(31), Name(1), Name(0));
-    let first = word((*store).enter(kind));
-    let second = word((*store).enter(link));
-    let again = word((*store).enter(kind));
-    let third = word((*store).enter(Fact::Joins(Link(31), Name(0), Name(2))));
-    let held = (*store).has(link);
-    let other = (*store).has(Fact::Joins(Link(31), Name(0), Name(1)));
+    let first = Outcome(store.enter(kind));
+    let second = Outcome(store.enter(link));
+    let again = Outcome(store.enter(kind));
+    let third = Outcome(store.enter(Fact::Joins(Link(31), Name(0), Name(2))));
+    let held = store.has(link);
+    let other = store.has(Fact::Joins(Link(31), Name(0), Name(1)));
     println!(rt; "{first} {second} {again} {third} {held} {other}")?;
     Ok(())
 }
 
 fn records(rt: &HostRuntime) -> anyhow::Result<()> {
-    let mut lent = [Fact::Is(Kind(0), Name(0)); 2];
+    let mut lent = [BLANK; 2];
     let mut store = RecordStore::open(&mut lent, 2);
     tell(rt, "two records, 2 names", &store)?;
     enter(rt, &mut store)?;
     tell(rt, "the same", &store)?;
-    let mut one = [Fact::Is(Kind(0), Name(0)); 1];
+    let mut one = [BLANK; 1];
     let mut store = RecordStore::open(&mut one, 2);
     enter(rt, &mut store)?;
-    let mut many = [Fact::Is(Kind(0), Name(0)); 65_537];
+    let mut many = [BLANK; 65_537];
     tell(
         rt,
         "65537 records, 1024 names",

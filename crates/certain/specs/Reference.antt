@@ -9,6 +9,8 @@ use Rattle.league.specs.declared.rules.Rule.{Rule}
 use Rattle.league.specs.Faults.{from_store}
 use Rattle.store.specs.Holding.{Holding, reply, after, opened}
 use Rattle.rules.specs.RuleSet.{RuleSet, no_rules, rule_reply, rule_after}
+use Rattle.rules.specs.Tables.{means as rule_set}
+use Rattle.certain.specs.declared.register.Register.{Register}
 use Rattle.certain.specs.declared.calls.Call.{Call}
 use Rattle.certain.specs.declared.calls.Call.TheVariants.{EnterFact, EnterRule}
 
@@ -19,6 +21,10 @@ pub record Accepted : Type 0 where
 
 abbrev pub accepted : Holding → RuleSet → Accepted
 accepted h s = record { store = h; book = s }
+
+-- what a register has accepted, where a store of its type holds what `means` tells
+abbrev pub accepted_by : {S : Type 0} → (S → Holding) → Register S → Accepted
+accepted_by means register = accepted (means register.store) (rule_set register.rules)
 
 -- a register that was opened on an empty store: no facts and no rules
 abbrev pub at_first : ℕ → ℕ → Accepted

@@ -3,7 +3,7 @@ use league::facts::Fact;
 use league::rules::Rule;
 
 /// One call on a register.
-#[derive(Clone, Copy)]
+#[derive(Clone, Copy, PartialEq, Eq)]
 pub enum Call {
     EnterFact(Fact),
     EnterRule(Rule),

@@ -3,7 +3,7 @@ ghost use Rattle.std.specs.Prelude.{◌≡◌};
 ghost use Rattle.store.specs.Holding.{count as counted};
 ghost use Rattle.rules.specs.RuleSet.{no_rules};
 ghost use Rattle.rules.specs.Tables.{means as rule_set};
-ghost use Rattle.certain.specs.Reference.{accepted, fact_reply, fact_after, rule_replied, rule_entered, reply_to, next};
+ghost use Rattle.certain.specs.Reference.{accepted_by, fact_reply, fact_after, rule_replied, rule_entered, reply_to, next};
 
 use crate::calls::Call;
 use league::facts::{Entry, Fact};
@@ -12,6 +12,7 @@ use league::rules::Rule;
 use rules::table::RuleTable;
 use store::contract::Store;
 
+// No model: what is accepted has a function from facts, and a model's value may hold none.
 /// A store with rules.
 #[derive(Drop)]
 pub struct Register<S: Store> {
@@ -33,60 +34,59 @@ impl<S: Store> Register<S> {
 
     /// How many names there are.
     pub fn names(&self) -> u16
-        ensures { result ≡ (S.means self.now.store).names }
+        ensures { result ≡ (accepted_by S.means self.now).store.names }
     {
         self.store.names()
     }
 
     /// How many facts the register may hold.
     pub fn limit(&self) -> u32
-        ensures { result ≡ (S.means self.now.store).limit }
+        ensures { result ≡ (accepted_by S.means self.now).store.limit }
     {
         self.store.limit()
     }
 
     /// How many facts it holds.
     pub fn count(&self) -> u32
-        ensures { result ≡ counted (S.means self.now.store) }
+        ensures { result ≡ counted (accepted_by S.means self.now).store }
     {
         self.store.count()
     }
 
     /// Whether it holds the fact.
     pub fn has(&self, fact: Fact) -> bool
-        ensures { result ≡ (S.means self.now.store).facts fact }
+        ensures { result ≡ (accepted_by S.means self.now).store.facts fact }
     {
         self.store.has(fact)
     }
 
     /// Whether it has accepted the rule, in this spelling or its other.
     pub fn has_rule(&self, rule: Rule) -> bool
-        ensures { result ≡ (rule_set self.now.rules).rules rule }
+        ensures { result ≡ (accepted_by S.means self.now).book.rules rule }
     {
         self.rules.has(rule)
     }
 
     /// Enters a fact.
     pub fn enter_fact(&mut self, fact: Fact) -> Result<Entry, BookFault>
-        ensures replies { result ≡ fact_reply (accepted (S.means self.old.store) (rule_set self.old.rules)) fact }
-        ensures holds { accepted (S.means self.new.store) (rule_set self.new.rules) ≡ fact_after (accepted (S.means self.old.store) (rule_set self.old.rules)) fact }
+        ensures replies { result ≡ fact_reply (accepted_by S.means self.old) fact }
+        ensures holds { accepted_by S.means self.new ≡ fact_after (accepted_by S.means self.old) fact }
     {
-        let entry = self.store.enter(fact)?;
-        Ok(entry)
+        Ok(self.store.enter(fact)?)
     }
 
     /// Enters a rule.
     pub fn enter_rule(&mut self, rule: Rule) -> Result<Entry, BookFault>
-        ensures replies { result ≡ rule_replied (accepted (S.means self.old.store) (rule_set self.old.rules)) rule }
-        ensures holds { accepted (S.means self.new.store) (rule_set self.new.rules) ≡ rule_entered (accepted (S.means self.old.store) (rule_set self.old.rules)) rule }
+        ensures replies { result ≡ rule_replied (accepted_by S.means self.old) rule }
+        ensures holds { accepted_by S.means self.new ≡ rule_entered (accepted_by S.means self.old) rule }
     {
         self.rules.enter(rule)
     }
 
     /// Carries out a call.
     pub fn enter(&mut self, call: Call) -> Result<Entry, BookFault>
-        ensures replies { result ≡ reply_to (accepted (S.means self.old.store) (rule_set self.old.rules)) call }
-        ensures holds { accepted (S.means self.new.store) (rule_set self.new.rules) ≡ next (accepted (S.means self.old.store) (rule_set self.old.rules)) call }
+        ensures replies { result ≡ reply_to (accepted_by S.means self.old) call }
+        ensures holds { accepted_by S.means self.new ≡ next (accepted_by S.means self.old) call }
     {
         match call {
             Call::EnterFact(fact) => self.enter_fact(fact),

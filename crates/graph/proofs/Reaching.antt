@@ -1,7 +1,7 @@
 -- The reach search: what its sets keep from turn to turn, and what they hold at its end.
 use Rattle.std.proofs.Common.{◌≡◌, ℕ, zero, suc, ◌+◌, ◌<◌, Bool, true, false, cond, not, ◌||◌, T, ◌⊎◌, List, [], ◌∷◌, length, get_or, set, replicate, count_by, sym, refl, ◌∙◌, subst, inl, inr, ⊎_elim, arith, length-set}
 use lib.ListN.{length-replicate}
-use Rattle.std.proofs.lemmas.List.{get_or-set_same, get_or-set_other, get_or-replicate, get_or_past}
+use Rattle.std.proofs.lemmas.List.{get_or-set_other, get_or-replicate, get_or_past}
 use Rattle.std.proofs.lemmas.List.Sums.{sum_by-set}
 use Rattle.std.proofs.lemmas.Bool.{cases_eq, cases_lt}
 use Rattle.graph.specs.Paths.{In, Step, Star, Reached, Tells, here, then}
@@ -116,25 +116,3 @@ fewer_left finished i l e =
     sum_by-set (λ x. cond (not x) 1 0) finished i true false l in
     let n : cond {A = ℕ} (not (get_or finished i false)) 1 0 ≡ 1 = rw e refl in
     omega arith
-
--- what is reached from a set of one node
-pub reached_from_one : (edge : ℕ → ℕ → Bool) (n node k : ℕ) (b : Bool) → node < n
-    → Tells b (Reached edge (set (replicate n false) node true) k) → Tells b (Star (Step edge n) node k)
-reached_from_one edge n node k b l t = record {
-  sound = λ h.
-      let r = t.sound h in
-      let p : Star (Step edge n) r.0 k = subst (λ (m : ℕ). Star (Step edge m) r.0 k) long r.1.1 in
-      subst (λ (a : ℕ). Star (Step edge n) a k)
-      (⊎_elim (λ e. e) (λ none. absurd (none_in n r.0 none)) (more_in (replicate n false) node r.0 r.1.0))
-      p;
-  complete = λ p.
-      t.complete (node, (own, subst (λ (m : ℕ). Star (Step edge m) node k) (sym long) p));
-}
-  where
-    long : length (set (replicate n false) node true) ≡ n
-    long = length-set (replicate n false) node true ∙ length-replicate n false
-
-    own : In (set (replicate n false) node true) node
-    own =
-        same_in (get_or (set (replicate n false) node true) node false) true
-        (get_or-set_same (replicate n false) node true false (rw (length-replicate n false) l)) tt

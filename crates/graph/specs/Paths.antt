@@ -1,5 +1,5 @@
 -- Paths in a graph, and where they lead from a set of nodes.
-use Rattle.std.specs.Prelude.{ℕ, ◌<◌, Bool, false, T, List, length, slice_index_or}
+use Rattle.std.specs.Prelude.{◌≡◌, ℕ, ◌<◌, Bool, false, ◌||◌, T, List, length, slice_index_or}
 
 -- the smallest reflexive and transitive relation that holds the edges
 pub data Star {A : Type 0} (E : A → A → Type 0) : A → A → Type 0 where
@@ -13,6 +13,11 @@ Step edge n a b = T (edge a b) × (b < n)
 -- the node is in a set, which has a flag for each node
 abbrev pub In : List Bool → ℕ → Type 0
 In set k = T (slice_index_or set k false)
+
+-- of the nodes that the sets have flags for, the new set has those of the old one, those that pass a test, and no other
+abbrev pub Adds : List Bool → List Bool → (ℕ → Bool) → Type 0
+Adds old new joins =
+    (k : ℕ) → k < length old → slice_index_or new k false ≡ (slice_index_or old k false || joins k)
 
 -- a path leads to the node from a node of the set
 abbrev pub Reached : (ℕ → ℕ → Bool) → List Bool → ℕ → Type 0

@@ -1,5 +1,6 @@
 //! What every graph tells: its nodes are numbers, and the successors of a node are added to a set as a whole row of flags.
-ghost use Rattle.std.specs.Prelude.{◌≡◌, ℕ, ◌<◌, Bool, false, ◌||◌, length, slice_index_or};
+ghost use Rattle.std.specs.Prelude.{ℕ, Bool};
+ghost use Rattle.graph.specs.Paths.{Adds};
 
 /// A graph, by which nodes its edges join.
 pub trait Graph {
@@ -7,5 +8,5 @@ pub trait Graph {
 
     /// Adds to a set the nodes that an edge leads to from a node, those of them that the set has a flag for.
     fn add_successors(&self, node: usize, set: &mut [bool])
-        ensures { (k : ℕ) → k < length set.old → slice_index_or set.new k false ≡ (slice_index_or set.old k false || edge self.now node k) };
+        ensures { Adds set.old set.new (edge self.now node) };
 }

@@ -1,6 +1,7 @@
 -- Filling accepts a question exactly when it is proper.
-use Rattle.std.proofs.Common.{◌≡◌, ℕ, zero, suc, ◌+◌, ◌<◌, Bool, true, false, eqb, ltb, List, [], ◌∷◌, length, is_ok, Ok, Err, sym, refl, ap, ◌∙◌, subst, inl, inr, ⊎_elim, arith}
+use Rattle.std.proofs.Common.{◌≡◌, ℕ, zero, suc, ◌+◌, ◌<◌, Bool, true, false, eqb, ltb, List, [], ◌∷◌, All, length, is_ok, Ok, Err, sym, refl, ap, ◌∙◌, subst, inl, inr, ⊎_elim, arith}
 use Rattle.std.proofs.lemmas.Bool.{ltb-false, le-ltb, eqb-true, eqb-false, eq-eqb, ne_eqb, not-false, not_from_true, or_parts, or_cases, or_from, or_left, or_right, and_parts, and_from, cases_lt}
+use Rattle.std.proofs.lemmas.List.Elements.{All-nil, All-cons, All-head, All-tail}
 use Rattle.league.specs.declared.faults.BookFault.{BookFault}
 use Rattle.league.specs.declared.questions.Term.{Term}
 use Rattle.league.specs.declared.questions.Atom.{Atom}
@@ -13,7 +14,7 @@ use Rattle.league.specs.Proper.{TermRanged, AtomRanged, Proper}
 -- of two checks that pass, each does
 passed : (r s : Checked) → is_ok (and_then r s) ≡ true → (is_ok r ≡ true) × (is_ok s ≡ true)
 passed (Ok u) s e = (refl, e)
-passed (Err f) s e = absurd (let z : ◌≡◌ {A = ℕ} 0 1 = cc in omega arith)
+passed (Err f) s e = cc
 
 -- a check that passes found nothing
 unrefused : (b : Bool) (f : BookFault) → is_ok (refused_if b f) ≡ true → b ≡ false
@@ -32,15 +33,21 @@ atom_ranged p (Atom.Joins R s t) e =
     in let r = passed _ _ q.1
     in (ltb-false 31 (link_of R).0 (unrefused _ _ q.0), term_ranged (p + 1) s r.0, term_ranged (p + 2) t r.1)
 
-all_ranged : (p : ℕ) (atoms : List Atom) → is_ok (numbers_checked p atoms) ≡ true → (a : Atom) → Among a atoms → AtomRanged a
-all_ranged p [] e a m = absurd m
-all_ranged p (b ∷ atoms) e a m =
-    let q = passed _ _ e
-    in ⊎_elim (λ i. subst AtomRanged (sym i) (atom_ranged p b q.0)) (all_ranged (p + arguments_of b) atoms q.1 a) m
+-- atoms whose numbers pass are in range
+pub all_ranged : (p : ℕ) (atoms : List Atom) → is_ok (numbers_checked p atoms) ≡ true → All AtomRanged atoms
+all_ranged p [] e = All-nil AtomRanged
+all_ranged p (b ∷ atoms) e =
+    let q = passed _ _ e in All-cons AtomRanged b atoms (atom_ranged p b q.0) (all_ranged (p + arguments_of b) atoms q.1)
+
+-- what is among atoms in range is in range
+among_ranged : (atoms : List Atom) → All AtomRanged atoms → (a : Atom) → Among a atoms → AtomRanged a
+among_ranged [] all a m = absurd m
+among_ranged (b ∷ atoms) all a m =
+    ⊎_elim (λ i. subst AtomRanged (sym i) (All-head AtomRanged b atoms all)) (among_ranged atoms (All-tail AtomRanged b atoms all) a) m
 
 is_variable_lem : (v : ℕ) (t : Term) → is_variable v t ≡ true → Term.Variable v ≡ t
 is_variable_lem v (Term.Variable u) e = ap Term.Variable (sym (eqb-true u v e))
-is_variable_lem v (Term.Name a) e = absurd (let z : ◌≡◌ {A = ℕ} 0 1 = cc in omega arith)
+is_variable_lem v (Term.Name a) e = cc
 
 occurs : (v : ℕ) (a : Atom) → mentions v a ≡ true → Occurs (Term.Variable v) a
 occurs v (Atom.Is k t) e = is_variable_lem v t e
@@ -48,7 +55,7 @@ occurs v (Atom.Joins R s t) e =
     ⊎_elim (λ h. inl (is_variable_lem v s h)) (λ h. inr (is_variable_lem v t h)) (or_cases (is_variable v s) (is_variable v t) e)
 
 in_some : (v : ℕ) (atoms : List Atom) → mentioned v atoms ≡ true → InSome (Term.Variable v) atoms
-in_some v [] e = absurd (let z : ◌≡◌ {A = ℕ} 0 1 = cc in omega arith)
+in_some v [] e = cc
 in_some v (a ∷ atoms) e =
     ⊎_elim (λ h. (a, inl refl, occurs v a h)) (λ h. let q = in_some v atoms h in (q.0, inr q.1, q.2))
     (or_cases (mentions v a) (mentioned v atoms) e)
@@ -74,7 +81,7 @@ accepted_proper k atoms e =
       few = ltb-false 4 k counts.0;
       some = omega (arith, nonempty);
       short = ltb-false 16 (length atoms) (unrefused _ _ b.0);
-      ranged = all_ranged 2 atoms c.0;
+      ranged = among_ranged atoms (all_ranged 2 atoms c.0);
       narrow = ltb-false 8 (length (terms_of atoms)) (unrefused _ _ d.0);
       answered = each_covered k atoms (not-false (covered k atoms) (unrefused _ _ d.1));
     }
@@ -104,7 +111,7 @@ numbers_accepted p (a ∷ atoms) h =
 
 variable_is : (v : ℕ) (t : Term) → Term.Variable v ≡ t → is_variable v t ≡ true
 variable_is v (Term.Variable u) e = let same : u ≡ v = cc in eq-eqb u v same
-variable_is v (Term.Name a) e = let z : ◌≡◌ {A = ℕ} 0 1 = cc in absurd (omega arith)
+variable_is v (Term.Name a) e = cc
 
 occurs_mentions : (v : ℕ) (a : Atom) → Occurs (Term.Variable v) a → mentions v a ≡ true
 occurs_mentions v (Atom.Is k t) o = variable_is v t o

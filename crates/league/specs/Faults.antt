@@ -1,5 +1,6 @@
--- The number of each refusal.
-use Rattle.std.specs.Prelude.{ℕ}
+-- The number of each refusal, and the argument that it tells.
+use Rattle.std.specs.Prelude.{ℕ, Option, Some, None}
+use Rattle.league.specs.declared.faults.Place.{Place}
 use Rattle.league.specs.declared.faults.StoreFault.{StoreFault}
 use Rattle.league.specs.declared.faults.StoreFault.TheVariants as store
 use Rattle.league.specs.declared.faults.BookFault.{BookFault}
@@ -29,6 +30,28 @@ book_number book.Answers = 8
 book_number book.Contradiction = 9
 book_number book.Page = 10
 book_number book.Match = 11
+
+-- the argument at fault: a kind, a link or a name is one of the fact's, and a store at its limit blames none
+abbrev pub store_place : StoreFault → Option Place
+store_place (store.Kind p) = Some p
+store_place (store.Link p) = Some p
+store_place (store.Name p) = Some p
+store_place store.Full = None
+
+-- the argument at fault: the store's refusals tell theirs; a kind, a link, a name and a variable are one of the call's;
+-- the other refusals blame no one argument
+abbrev pub book_place : BookFault → Option Place
+book_place (book.Store fault) = store_place fault
+book_place (book.Kind p) = Some p
+book_place (book.Link p) = Some p
+book_place (book.Name p) = Some p
+book_place book.Pairs = None
+book_place book.Size = None
+book_place (book.Variable p) = Some p
+book_place book.Answers = None
+book_place book.Contradiction = None
+book_place book.Page = None
+book_place book.Match = None
 
 -- the store's refusal, as one of the register's
 abbrev pub from_store : StoreFault → BookFault

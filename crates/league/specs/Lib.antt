@@ -1,7 +1,9 @@
+pub mod Arguments
 pub mod Asked
 pub mod Facts
 pub mod Faults
 pub mod Filling
+pub mod Fresh
 pub mod Proper
 pub mod Questions
 pub mod Roles

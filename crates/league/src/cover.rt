@@ -1,26 +1,17 @@
 //! Which variables the atoms of a question have: each answer variable has to be in some atom.
 ghost use Rattle.std.specs.Prelude.{◌≡◌};
-ghost use Rattle.league.specs.Filling.{is_variable, mentions, mentioned, covered};
+ghost use Rattle.league.specs.Filling.{mentions, mentioned, covered};
 
 use crate::questions::{Atom, Term};
-
-/// Whether the term is this variable.
-fn is_variable(term: Term, variable: u16) -> bool
-    ensures { result ≡ is_variable variable term }
-{
-    match term {
-        Term::Variable(other) => other == variable,
-        Term::Name(_) => false,
-    }
-}
 
 /// Whether the atom has this variable.
 fn has_variable(atom: Atom, variable: u16) -> bool
     ensures { result ≡ mentions variable atom }
 {
+    let sought = Term::Variable(variable);
     match atom {
-        Atom::Is(_, term) => is_variable(term, variable),
-        Atom::Joins(_, from, to) => is_variable(from, variable) || is_variable(to, variable),
+        Atom::Is(_, term) => term == sought,
+        Atom::Joins(_, from, to) => from == sought || to == sought,
     }
 }
 
@@ -28,22 +19,12 @@ fn has_variable(atom: Atom, variable: u16) -> bool
 fn some_has(atoms: &[Atom], variable: u16) -> bool
     ensures { result ≡ mentioned variable atoms.now }
 {
-    for atom in atoms {
-        if has_variable(*atom, variable) {
-            return true;
-        }
-    }
-    false
+    atoms.iter().any(|atom| has_variable(*atom, variable))
 }
 
 /// Whether each of the first variables, as many as there are answers, is in some atom.
 pub fn covers(atoms: &[Atom], answers: u16) -> bool
     ensures { result ≡ covered answers atoms.now }
 {
-    for variable in 0..answers {
-        if !some_has(atoms, variable) {
-            return false;
-        }
-    }
-    true
+    (0..answers).all(|variable| some_has(atoms, variable))
 }

@@ -1,7 +1,7 @@
 //! Names, kinds and links are three sorts of number; facts are stated over them.
 
 /// A person, club or anything else that a register speaks of, by its number.
-#[derive(Clone, Copy, PartialEq, Eq)]
+#[derive(Clone, Copy, PartialEq, Eq, PartialOrd, Ord)]
 pub struct Name(pub u16);
 
 /// A sort of entry, such as "is a trainer" (a concept name of description logic).

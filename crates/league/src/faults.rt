@@ -1,6 +1,6 @@
 //! Why a call is refused: each refusal has a number, and some tell the argument at fault.
 ghost use Rattle.std.specs.Prelude.{◌≡◌};
-ghost use Rattle.league.specs.Faults.{store_number, book_number, from_store};
+ghost use Rattle.league.specs.Faults.{store_number, book_number, store_place, book_place, from_store};
 
 /// The argument of a call that is at fault, counted from 1 from the left.
 #[derive(Clone, Copy, PartialEq, Eq)]
@@ -21,6 +21,7 @@ pub enum StoreFault {
 
 impl StoreFault {
     /// The number of the refusal.
+    // A number and no enum: it is what a reply to a call prints of the refusal.
     pub fn number(self) -> u8
         ensures { result ≡ store_number self }
     {
@@ -29,6 +30,16 @@ impl StoreFault {
             StoreFault::Link(_) => 2,
             StoreFault::Name(_) => 3,
             StoreFault::Full => 4,
+        }
+    }
+
+    /// The argument at fault, where the refusal tells one.
+    pub fn place(self) -> Option<Place>
+        ensures { result ≡ store_place self }
+    {
+        match self {
+            Self::Kind(place) | Self::Link(place) | Self::Name(place) => Some(place),
+            Self::Full => None,
         }
     }
 }
@@ -65,6 +76,7 @@ impl BookFault {
     pub fn number(self) -> u8
         ensures { result ≡ book_number self }
     {
+        // A number, as of a store's refusal.
         match self {
             BookFault::Store(fault) => fault.number(),
             BookFault::Kind(_) => 1,
@@ -77,6 +89,19 @@ impl BookFault {
             BookFault::Contradiction => 9,
             BookFault::Page => 10,
             BookFault::Match => 11,
+        }
+    }
+
+    /// The argument at fault, where the refusal tells one: the store's refusal tells its own.
+    pub fn place(self) -> Option<Place>
+        ensures { result ≡ book_place self }
+    {
+        match self {
+            Self::Store(fault) => fault.place(),
+            Self::Kind(place) | Self::Link(place) => Some(place),
+            Self::Name(place) | Self::Variable(place) => Some(place),
+            Self::Pairs | Self::Size | Self::Answers => None,
+            Self::Contradiction | Self::Page | Self::Match => None,
         }
     }
 }

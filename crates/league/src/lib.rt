@@ -1,10 +1,11 @@
 //! The subject: names, kinds and links, the facts, rules and questions over them, and why a call is refused.
 #![tactic(auto)]
 
+pub mod arguments;
 mod cover;
 pub mod facts;
 pub mod faults;
-pub mod filling;
+mod filling;
 mod numbers;
 pub mod question;
 pub mod questions;

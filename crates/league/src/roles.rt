@@ -1,6 +1,6 @@
 //! Roles and marks: a link read from one of its sides, and what an entry can have.
 ghost use Rattle.std.specs.Prelude.{◌≡◌};
-ghost use Rattle.league.specs.Roles.{code as code_of, inverse as inverse_of};
+ghost use Rattle.league.specs.Roles.{code as code_of, inverse as inverse_of, link_of};
 
 use crate::facts::{Kind, Link};
 
@@ -13,12 +13,22 @@ pub enum Role {
 
 impl Role {
     /// Twice the link's number, plus one for backward.
+    // A number and no enum: it is the row or the column of the role in a table of all roles.
     pub fn code(self) -> u32
         ensures { result ≡ code_of self }
     {
         match self {
-            Role::Forward(link) => 2 * link.0 as u32,
-            Role::Backward(link) => 2 * link.0 as u32 + 1,
+            Role::Forward(link) => 2 * u32::from(link.0),
+            Role::Backward(link) => 2 * u32::from(link.0) + 1,
+        }
+    }
+
+    /// The link that the role reads.
+    pub fn link(self) -> Link
+        ensures { result ≡ link_of self }
+    {
+        match self {
+            Role::Forward(link) | Role::Backward(link) => link,
         }
     }
 

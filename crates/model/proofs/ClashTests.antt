@@ -1,17 +1,18 @@
 -- The test for a clash tells exactly whether one stands.
-use Rattle.std.proofs.Common.{ℕ, ◌<◌, Bool, ◌&&◌, T, ◌↔◌, sym, refl, subst, subst₂, inl, inr, arith}
+use Rattle.std.proofs.Common.{◌≡◌, ℕ, ◌<◌, Bool, ◌&&◌, T, ◌↔◌, sym, refl, subst, subst₂, inl, inr, arith}
 use Rattle.league.specs.Roles.{inverse, code}
 use Rattle.league.specs.declared.facts.Fact.{Fact}
 use Rattle.league.specs.declared.roles.Mark.{Mark}
 use Rattle.league.specs.declared.roles.Mark.TheVariants.{Is, Has}
 use Rattle.league.specs.declared.roles.Role.TheVariants.{Forward, Backward}
+use Rattle.league.specs.declared.rules.Rule.{Rule}
 use Rattle.league.specs.declared.rules.Rule.TheVariants.{Exclusion}
 use Rattle.rules.specs.Codes.{role_of, mark_of}
 use Rattle.rules.specs.Marks.{MarkIn, mark_code}
 use Rattle.rules.specs.RuleSet.{RuleSet, Proper}
 use Rattle.rules.proofs.Coded.{code_role, role_of_code}
 use Rattle.model.specs.Canonical.{Clash, Present, HasMark}
-use Rattle.model.specs.Clashes.{name_holds, witness_holds, some_holds, clashes_at, clash_test}
+use Rattle.model.specs.Clashes.{name_holds, witness_holds, some_holds, mark_clashes, clashes_at, clash_test}
 use Rattle.model.specs.Elements.{Element}
 use Rattle.model.specs.Recorded.{FactsIn, name_of}
 use Rattle.model.specs.Rows.{some_below}
@@ -29,6 +30,10 @@ small (Has (Backward l)) h = omega arith
 ranged : (B : Mark) → MarkIn B → MarkRange B
 ranged (Is k) h = h
 ranged (Has R) h = in_small R h
+
+pub clash_marks : (t : Tabled) (rules : Rule → Bool) → some_below 128 (λ b. mark_clashes t rules (mark_of b)) ≡ clash_test t rules
+unfolding mark_clashes
+clash_marks t rules = refl
 
 module _ (facts : Fact → Bool) (rules : RuleSet) (t : Tabled) (inside : FactsIn t.names facts) (proper : Proper rules) (right : Right facts rules t) where
   back_range : (r : ℕ) → r < 128 → RoleRange (inverse (role_of r))

@@ -261,11 +261,11 @@ tables_right h rules t made inside few proper decides =
     record {
       below_is = λ R S _. below_is_lem h c rules inside proper decides R S;
       implies_is = λ B C _. implies_is_lem h c rules inside proper decides B C;
-      marks_are = λ a C l. marks_are_lem h c rules inside proper decides few t.rows.marks t.rows.starts made.rows_are a C (omega (arith, l, made.names_are));
-      starts_are = λ a R l. subst (λ n. T (flag_in 1024 128 t.rows.starts a (code R)) ↔ NameGenerates n h.facts rules (name_of a) R) (sym made.names_are)
-          (starts_are_lem h c rules inside proper decides few t.rows.marks t.rows.starts made.rows_are a R (omega (arith, l, made.names_are)));
+      marks_are = λ a C l. marks_are_lem h c rules inside proper decides few t.rows.marks.cells t.rows.starts.cells made.rows_are a C (omega (arith, l, made.names_are));
+      starts_are = λ a R l. subst (λ n. T (flag_in 1024 128 t.rows.starts.cells a (code R)) ↔ NameGenerates n h.facts rules (name_of a) R) (sym made.names_are)
+          (starts_are_lem h c rules inside proper decides few t.rows.marks.cells t.rows.starts.cells made.rows_are a R (omega (arith, l, made.names_are)));
       generating_is = λ R. subst (λ n. T (flag_at 128 t.generating (code R)) ↔ Generating n h.facts rules R) (sym made.names_are)
-          (generating_is_lem h c rules inside proper decides few t.rows.marks t.rows.starts made.rows_are t.generating made.generating_are R);
-      loops_are = pairs_are_lem h c rules inside proper decides t.loops.pairs made.pairs_are;
+          (generating_is_lem h c rules inside proper decides few t.rows.marks.cells t.rows.starts.cells made.rows_are t.generating made.generating_are R);
+      loops_are = pairs_are_lem h c rules inside proper decides t.loops.pairs.cells made.pairs_are;
       in_loop_is = members_are_lem h c rules inside proper decides t.loops.members made.members_are;
     }

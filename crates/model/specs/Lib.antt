@@ -1,5 +1,6 @@
 pub mod Canonical
 pub mod Clashes
+pub mod Decoded
 pub mod Elements
 pub mod Given
 pub mod LookedUp

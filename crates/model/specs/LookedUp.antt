@@ -18,10 +18,10 @@ tabled t = record {
   names = t.names;
   below = told_below t.consequences.now;
   implies = told_implies t.consequences.now;
-  marks = λ a C. mark_listed C && flag_in 1024 192 t.rows.marks a (mark_code C);
-  starts = λ a R. flag_in 1024 128 t.rows.starts a (code R);
+  marks = λ a C. mark_listed C && flag_in 1024 192 t.rows.marks.cells a (mark_code C);
+  starts = λ a R. flag_in 1024 128 t.rows.starts.cells a (code R);
   generating = λ R. flag_at 128 t.generating (code R);
-  loops = λ R S. flag_in 128 128 t.loops.pairs (code R) (code S);
+  loops = λ R S. flag_in 128 128 t.loops.pairs.cells (code R) (code S);
   in_loop = λ R. flag_at 128 t.loops.members (code R);
 }
 
@@ -29,7 +29,7 @@ tabled t = record {
 -- reached from those that a name generates
 pub record TablesOf (h : Holding) (t : CanonicalTables) : Type 0 where
   pub names_are : t.names ≡ h.names
-  pub rows_are : (a : ℕ) → a < h.names → RowsOf h t.consequences.now (name_of a) (slice_index_or t.rows.marks a []) (slice_index_or t.rows.starts a [])
-  pub pairs_are : Stacked t.loops.pairs 128 128 (λ i j. told_loop t.consequences.now (role_of i) (role_of j))
+  pub rows_are : (a : ℕ) → a < h.names → RowsOf h t.consequences.now (name_of a) (slice_index_or t.rows.marks.cells a []) (slice_index_or t.rows.starts.cells a [])
+  pub pairs_are : Stacked t.loops.pairs.cells 128 128 (λ i j. told_loop t.consequences.now (role_of i) (role_of j))
   pub members_are : Filled t.loops.members 128 (λ i. told_in_loop t.consequences.now (role_of i))
-  pub generating_are : GeneratingRow t.consequences.now t.rows.starts h.names t.generating
+  pub generating_are : GeneratingRow t.consequences.now t.rows.starts.cells h.names t.generating

@@ -14,9 +14,13 @@ module _ (c : Consequences) where
   abbrev pub told_generates : Role → Role → Bool
   told_generates U S = told_implies c (Has (inverse U)) (Has S) && not (code S == code (inverse U))
 
-  -- the role with a code is above both S⁻ and R
+  -- U is above both S⁻ and R
+  abbrev pub is_above : Role → Role → Role → Bool
+  is_above R S U = told_below c (inverse S) U && told_below c R U
+
+  -- the same, of the role with a code
   abbrev pub above_both : Role → Role → ℕ → Bool
-  above_both R S u = told_below c (inverse S) (role_of u) && told_below c R (role_of u)
+  above_both R S u = is_above R S (role_of u)
 
   -- R and S form a loop
   abbrev pub told_loop : Role → Role → Bool

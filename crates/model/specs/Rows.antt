@@ -1,5 +1,6 @@
 -- Rows of flags, and searches below a number.
 use Rattle.std.specs.Prelude.{◌≡◌, ℕ, zero, suc, ◌<◌, Bool, false, ◌&&◌, ◌||◌, List, [], nat_lt, slice_index_or}
+use Rattle.rules.specs.Flags.{flag}
 
 -- the test holds of some number below n; it stays shut, as it would else compute to as many tests
 unfoldable pub some_below : ℕ → (ℕ → Bool) → Bool
@@ -16,7 +17,7 @@ flag_at wide row i = nat_lt i wide && slice_index_or row i false
 
 -- the flag at a row and a column of a table with so many of them; outside of it none is set
 abbrev pub flag_in : ℕ → ℕ → List (List Bool) → ℕ → ℕ → Bool
-flag_in tall wide rows i j = (nat_lt i tall && nat_lt j wide) && slice_index_or (slice_index_or rows i []) j false
+flag_in tall wide rows i j = (nat_lt i tall && nat_lt j wide) && flag rows i j
 
 -- the first n rows of a table tell a test each, up to a width
 abbrev pub Stacked : List (List Bool) → ℕ → ℕ → (ℕ → ℕ → Bool) → Type 0

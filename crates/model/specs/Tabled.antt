@@ -67,9 +67,13 @@ module _ (t : Tabled) where
   abbrev pub index_at : ℕ → ℕ
   index_at d = (d - t.names) % 3
 
+  -- R has a witness with the index i
+  abbrev pub has_witness : Role → ℕ → Bool
+  has_witness R i = t.generating R && (i == 0 || t.in_loop R)
+
   -- the number is that of a witness
   abbrev pub witness_at : ℕ → Bool
-  witness_at d = t.generating (role_at d) && (index_at d == 0 || t.in_loop (role_at d))
+  witness_at d = has_witness (role_at d) (index_at d)
 
   -- the number has an element
   abbrev pub present_at : ℕ → Bool
@@ -87,14 +91,21 @@ module _ (t : Tabled) where
   abbrev pub index_after : Role → ℕ → Role → ℕ
   index_after U i S = cond (t.in_loop S) (cond (turns U S) ((i + 1) % 3) i) 0
 
+  -- a name steps to S's witness j
+  abbrev pub steps_from_name : ℕ → Role → ℕ → Bool
+  steps_from_name a S j = t.starts a S && j == 0
+
   -- a name steps to the number
   abbrev pub name_steps : ℕ → ℕ → Bool
-  name_steps a e = t.starts a (role_at e) && index_at e == 0
+  name_steps a e = steps_from_name a (role_at e) (index_at e)
+
+  -- U has a witness i, and that steps to S's witness j
+  abbrev pub steps_from_witness : Role → ℕ → Role → ℕ → Bool
+  steps_from_witness U i S j = has_witness U i && (generates U S && j == index_after U i S)
 
   -- a witness steps to the number
   abbrev pub witness_steps : ℕ → ℕ → Bool
-  witness_steps d e =
-      witness_at d && (generates (role_at d) (role_at e) && index_at e == index_after (role_at d) (index_at d) (role_at e))
+  witness_steps d e = steps_from_witness (role_at d) (index_at d) (role_at e) (index_at e)
 
   -- d steps to e
   abbrev pub step_at : ℕ → ℕ → Bool
@@ -108,9 +119,13 @@ module _ (t : Tabled) where
   abbrev pub kind_at : Kind → ℕ → Bool
   kind_at k d = cond (is_name d) (t.marks d (Is k)) (witness_at d && t.implies (Has (inverse (role_at d))) (Is k))
 
-  -- a link fact joins the names by the role with a code, and that is below R
+  -- a link fact joins the names by the role S, and that is below R
+  abbrev pub joined_by : (Fact → Bool) → Role → ℕ → ℕ → Role → Bool
+  joined_by facts R a b S = t.below S R && facts (fact_of S (name_of a) (name_of b))
+
+  -- the same, of the role with a code
   abbrev pub name_fact : (Fact → Bool) → Role → ℕ → ℕ → ℕ → Bool
-  name_fact facts R a b c = t.below (role_of c) R && facts (fact_of (role_of c) (name_of a) (name_of b))
+  name_fact facts R a b c = joined_by facts R a b (role_of c)
 
   -- a link fact joins the names by a role below R; facts have links below 32, whose roles have the codes below 64
   abbrev pub names_at : (Fact → Bool) → Role → ℕ → ℕ → Bool

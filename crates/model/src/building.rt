@@ -23,7 +23,7 @@ fn tables_of<'a, S: Store>(store: &S, consequences: &'a Consequences) -> Canonic
     let names = store.names();
     let rows = NameTables::of(store, consequences);
     let loops = LoopTables::of(consequences);
-    let generating = generating_row(consequences, &rows, names);
+    let generating = generating_row(consequences, &rows.starts, names);
     CanonicalTables {
         consequences,
         names,

@@ -2,6 +2,8 @@
 use crate::tables::{LoopTables, NameTables};
 use rules::consequences::Consequences;
 
+// No `impl Model`: clauses see these tables by `tabled`, a record of functions, and the value of a model has to be data.
+
 /// What follows from the rules, the rows of each name, and which roles are generating or form loops.
 #[derive(Clone, Copy)]
 pub struct CanonicalTables<'a> {

@@ -1,49 +1,31 @@
 //! Whether a clash stands: some present element has both marks of an accepted exclusion.
 ghost use Rattle.std.specs.Prelude.{◌≡◌};
-ghost use Rattle.league.specs.declared.roles.Mark.TheVariants.{Has};
 ghost use Rattle.rules.specs.Tables.{means as rules_of};
-ghost use Rattle.model.specs.Clashes.{name_holds, witness_holds, some_holds, clashes_at, clash_test};
+ghost use Rattle.model.specs.Clashes.{name_holds, witness_holds, role_holds, some_holds, both_clash, mark_clashes, clash_test};
 ghost use Rattle.model.specs.LookedUp.{tabled};
 ghost use Rattle.model.specs.Rows.{some_below};
 
 use crate::canonical::CanonicalModel;
 use crate::canonical_tables::CanonicalTables;
 use crate::codes::{mark_of, role_of};
+use league::facts::Name;
 use league::roles::{Mark, Role};
 use league::rules::Rule;
 use store::contract::Store;
 
 impl CanonicalTables<'_> {
-    /// Whether a name has a partner by the role, named or not.
-    fn name_has_partner(&self, role: Role, name: u16) -> bool
-        ensures { result ≡ (tabled self.now).marks name (Has role) }
-    {
-        let (Role::Forward(link) | Role::Backward(link)) = role;
-        link.0 < 64 && self.rows.has_mark(name as usize, 64 + role.code() as usize)
-    }
-
-    /// Whether a name has the mark.
-    fn name_has(&self, mark: Mark, name: u16) -> bool
-        ensures { result ≡ (tabled self.now).marks name mark }
-    {
-        match mark {
-            Mark::Is(kind) => self.name_is(kind, name),
-            Mark::Has(role) => self.name_has_partner(role, name),
-        }
-    }
-
+    // Two marks stand together here: they are the two sides of an exclusion, and no value of their own.
     /// Whether a name has both marks.
-    fn name_holds(&self, left: Mark, right: Mark, name: u16) -> bool
-        ensures { result ≡ name_holds (tabled self.now) left right name }
+    fn name_holds(&self, left: Mark, right: Mark, name: Name) -> bool
+        ensures { result ≡ name_holds (tabled self.now) left right name.0 }
     {
         self.name_has(left, name) && self.name_has(right, name)
     }
 
-    /// Whether the role with a code is generating, and its witnesses have both marks.
-    fn witness_holds(&self, left: Mark, right: Mark, code: u16) -> bool
-        ensures { result ≡ witness_holds (tabled self.now) left right code }
+    /// Whether the role is generating, and its witnesses have both marks.
+    fn witness_holds(&self, left: Mark, right: Mark, role: Role) -> bool
+        ensures { result ≡ role_holds (tabled self.now) left right role }
     {
-        let role = role_of(code);
         let back = Mark::Has(role.inverse());
         self.is_generating(role)
             && self.consequences.implies(back, left)
@@ -54,24 +36,14 @@ impl CanonicalTables<'_> {
     fn some_name_holds(&self, left: Mark, right: Mark) -> bool
         ensures { result ≡ some_below self.now.names (name_holds (tabled self.now) left right) }
     {
-        for name in 0..self.names {
-            if self.name_holds(left, right, name) {
-                return true;
-            }
-        }
-        false
+        (0..self.names).any(|name| self.name_holds(left, right, Name(name)))
     }
 
     /// Whether the witnesses of some generating role have both marks.
     fn some_witness_holds(&self, left: Mark, right: Mark) -> bool
         ensures { result ≡ some_below 128 (witness_holds (tabled self.now) left right) }
     {
-        for code in 0..128 {
-            if self.witness_holds(left, right, code) {
-                return true;
-            }
-        }
-        false
+        (0..128).any(|code| self.witness_holds(left, right, role_of(code)))
     }
 
     /// Whether some present element has both marks.
@@ -82,37 +54,25 @@ impl CanonicalTables<'_> {
     }
 }
 
-/// Whether the marks with these codes exclude one another, and some present element has both.
-fn clashes_at<S: Store>(model: &CanonicalModel<S>, code: u16, other: u16) -> bool
-    ensures { result ≡ clashes_at (tabled model.now.tables) (rules_of model.now.rules.now).rules code other }
-{
-    let left = mark_of(code);
-    let right = mark_of(other);
-    model.rules.has(Rule::Exclusion(left, right)) && model.tables.some_holds(left, right)
-}
-
-/// Whether some mark excludes the mark with a code, and some present element has both.
-fn clashes_with<S: Store>(model: &CanonicalModel<S>, code: u16) -> bool
-    ensures { result ≡ some_below 128 (clashes_at (tabled model.now.tables) (rules_of model.now.rules.now).rules code) }
-{
-    for other in 0..128 {
-        if clashes_at(model, code, other) {
-            return true;
-        }
-    }
-    false
-}
-
 impl<'a, S: Store> CanonicalModel<'a, S> {
+    /// Whether the marks exclude one another, and some present element has both.
+    fn both_clash(&self, left: Mark, right: Mark) -> bool
+        ensures { result ≡ both_clash (tabled self.now.tables) (rules_of self.now.rules.now).rules left right }
+    {
+        self.rules.has(Rule::Exclusion(left, right)) && self.tables.some_holds(left, right)
+    }
+
+    /// Whether some mark excludes the mark, and some present element has both.
+    fn clashes(&self, mark: Mark) -> bool
+        ensures { result ≡ mark_clashes (tabled self.now.tables) (rules_of self.now.rules.now).rules mark }
+    {
+        (0..128).any(|code| self.both_clash(mark, mark_of(code)))
+    }
+
     /// Whether a clash stands.
     pub fn clash(&self) -> bool
         ensures { result ≡ clash_test (tabled self.now.tables) (rules_of self.now.rules.now).rules }
     {
-        for code in 0..128 {
-            if clashes_with(self, code) {
-                return true;
-            }
-        }
-        false
+        (0..128).any(|code| self.clashes(mark_of(code)))
     }
 }

@@ -2,15 +2,14 @@
 //! are names or are reached from names by steps.
 #![tactic(auto)]
 
-pub mod building;
+mod building;
 pub mod canonical;
-pub mod canonical_model;
+mod canonical_model;
 mod canonical_tables;
-pub mod clash;
+mod clash;
 mod codes;
 mod elements;
 mod generating;
-mod look_up;
 pub mod model;
 mod name_rows;
 pub mod plain;
@@ -18,3 +17,4 @@ mod recorded;
 mod role_tests;
 pub mod structure;
 mod tables;
+mod witness;

@@ -2,6 +2,7 @@
 ghost use Rattle.std.specs.Prelude.{◌≡◌};
 ghost use Rattle.model.specs.Plain.{plain_shape, plain_form};
 
+// By another name: the language has a trait `Model` too, and an impl's trait is told by its name.
 use crate::model::Model as SteppedModel;
 use crate::recorded::fact_of;
 use crate::structure::Structure;

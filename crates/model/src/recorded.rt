@@ -21,12 +21,7 @@ pub fn fact_of(role: Role, from: Name, to: Name) -> Fact
 pub fn has_partner<S: Store>(store: &S, role: Role, name: Name) -> bool
     ensures { result ≡ has_partner (S.Store.means store.now) role name }
 {
-    for partner in 0..store.names() {
-        if store.has(fact_of(role, name, Name(partner))) {
-            return true;
-        }
-    }
-    false
+    (0..store.names()).any(|partner| store.has(fact_of(role, name, Name(partner))))
 }
 
 /// Whether a recorded fact gives the name the mark.

@@ -1,26 +1,27 @@
 //! Which roles generate which, and which form loops.
 ghost use Rattle.std.specs.Prelude.{◌≡◌};
 ghost use Rattle.rules.specs.Codes.{role_of};
-ghost use Rattle.model.specs.RoleTests.{told_generates, above_both, told_loop, told_in_loop};
+ghost use Rattle.model.specs.RoleTests.{told_generates, is_above, above_both, told_loop, told_in_loop};
 ghost use Rattle.model.specs.Rows.{some_below, Filled};
 
 use crate::codes::role_of;
 use league::roles::{Mark, Role};
 use rules::consequences::Consequences;
+use std::array;
 
 /// Whether one role generates another: what it leads to has a partner by the other, not the one it was led to from.
 pub fn generates(consequences: &Consequences, from: Role, to: Role) -> bool
     ensures { result ≡ told_generates consequences.now from to }
 {
     let back = from.inverse();
-    consequences.implies(Mark::Has(back), Mark::Has(to)) && to.code() != back.code()
+    consequences.implies(Mark::Has(back), Mark::Has(to)) && to != back
 }
 
-/// Whether the role with a code is above the first role and above the other turned.
-fn is_above_both(consequences: &Consequences, role: Role, other: Role, code: u16) -> bool
-    ensures { result ≡ above_both consequences.now role other code }
+// Functions of consequences and two roles, and no methods: the type of consequences is another crate's.
+/// Whether the last role is above the first and above the other turned.
+fn is_above_both(consequences: &Consequences, role: Role, other: Role, above: Role) -> bool
+    ensures { result ≡ is_above consequences.now role other above }
 {
-    let above = role_of(code);
     consequences.below(other.inverse(), above) && consequences.below(role, above)
 }
 
@@ -28,12 +29,7 @@ fn is_above_both(consequences: &Consequences, role: Role, other: Role, code: u16
 fn meets_above(consequences: &Consequences, role: Role, other: Role) -> bool
     ensures { result ≡ some_below 128 (above_both consequences.now role other) }
 {
-    for code in 0..128 {
-        if is_above_both(consequences, role, other, code) {
-            return true;
-        }
-    }
-    false
+    (0..128).any(|code| is_above_both(consequences, role, other, role_of(code)))
 }
 
 /// Whether two roles form a loop.
@@ -42,7 +38,7 @@ fn forms_loop(consequences: &Consequences, role: Role, other: Role) -> bool
 {
     let back = role.inverse();
     let other_back = other.inverse();
-    role.code() != other_back.code()
+    role != other_back
         && consequences.implies(Mark::Has(back), Mark::Has(other))
         && consequences.implies(Mark::Has(other_back), Mark::Has(role))
         && meets_above(consequences, role, other)
@@ -52,9 +48,5 @@ fn forms_loop(consequences: &Consequences, role: Role, other: Role) -> bool
 pub fn loop_row(consequences: &Consequences, role: Role) -> [bool; 128]
     ensures { Filled result 128 (λ s. told_loop consequences.now role (role_of s)) }
 {
-    let mut row = [false; 128];
-    for code in 0..128 {
-        row[code as usize] = forms_loop(consequences, role, role_of(code));
-    }
-    row
+    array::from_fn(|code| forms_loop(consequences, role, role_of(code as u16)))
 }

@@ -25,6 +25,7 @@ pub trait Structure {
     fn of_kind(&self, kind: Kind, element: u16) -> bool
         ensures { result ≡ (shape self.now).kind kind element };
 
+    // A role and two elements stand together here and in each impl: they are the arguments of a relation, and no value.
     /// Whether the role joins the first element to the second.
     fn joins(&self, role: Role, from: u16, to: u16) -> bool
         ensures { result ≡ (shape self.now).joins role from to };

@@ -2,7 +2,9 @@
 use Rattle.std.proofs.Common.{◌≡◌, ℕ, ◌<◌, ◌≤◌, Bool, true, false, cond, ◌&&◌, ◌||◌, T, ltb, List, [], ◌∷◌, ◌++◌, length, is_some, Some, None, Ok, Err, Option, sym, refl, ◌∙◌, subst, ⊎_elim, arith}
 use Rattle.std.specs.List.{slice_get}
 use Rattle.std.proofs.lemmas.List.{length_push}
-use Rattle.std.proofs.lemmas.Bool.{cases_Bool, and_parts, or_cases, ltb-true, ltb-false}
+use Rattle.std.proofs.Math.Bool.{or_comm, and_comm}
+use Rattle.std.proofs.lemmas.Bool.{cases_Bool, and_parts, or_cases, ltb-false}
+use Rattle.std.proofs.lemmas.Bool.Decides.{nat_tests}
 use Rattle.league.specs.Roles.{inverse}
 use Rattle.league.specs.declared.facts.Entry.TheVariants.{New, Known}
 use Rattle.league.specs.declared.facts.Kind.{Kind}
@@ -32,18 +34,6 @@ no_rules_proper =
       pairs_apart = λ i j p e f. let z : ◌≡◌ {A = ℕ} 0 1 = cc in absurd (omega arith);
     }
 
-pub or_swap : (a b : Bool) → (a || b) ≡ (b || a)
-or_swap true true = refl
-or_swap true false = refl
-or_swap false true = refl
-or_swap false false = refl
-
-pub and_swap : (a b : Bool) → (a && b) ≡ (b && a)
-and_swap true true = refl
-and_swap true false = refl
-and_swap false true = refl
-and_swap false false = refl
-
 -- a rule that is the same as one in range is in range
 pub same-within : (r q : Rule) → same_rule r q ≡ true → rule_within r ≡ true → rule_within q ≡ true
 same-within (Inclusion B C) (Inclusion D E) e w =
@@ -60,7 +50,7 @@ same-within (Exclusion B C) (Exclusion D E) e w =
     rw (← mark_eq B D p.0, ← mark_eq C E p.1) w)
     (λ h.
     let p = and_parts (same_mark B E) (same_mark C D) h in
-    rw (← mark_eq B E p.0, ← mark_eq C D p.1) (and_swap (mark_within C) (mark_within B) ∙ w))
+    rw (← mark_eq B E p.0, ← mark_eq C D p.1) (and_comm (mark_within C) (mark_within B) ∙ w))
     (or_cases (same_mark B D && same_mark C E) (same_mark B E && same_mark C D) e)
 same-within (Exclusion B C) (Required D S m) e w = cc
 same-within (Exclusion B C) (RoleInclusion S U) e w = cc
@@ -87,7 +77,7 @@ same-within (RoleInclusion Q R) (RoleInclusion S U) e w =
 -- the two spellings are the same rules
 pub same_exchanged : (r : Rule) (B C : Mark) → same_rule r (Exclusion B C) ≡ same_rule r (Exclusion C B)
 same_exchanged (Inclusion D E) B C = refl
-same_exchanged (Exclusion D E) B C = or_swap (same_mark D B && same_mark E C) (same_mark D C && same_mark E B)
+same_exchanged (Exclusion D E) B C = or_comm (same_mark D B && same_mark E C) (same_mark D C && same_mark E B)
 same_exchanged (Required D R k) B C = refl
 same_exchanged (RoleInclusion R S) B C = refl
 
@@ -96,7 +86,7 @@ same_inverted (Inclusion D E) R S = refl
 same_inverted (Exclusion D E) R S = refl
 same_inverted (Required D Q k) R S = refl
 same_inverted (RoleInclusion Q U) R S =
-    rw (turn_turn R, turn_turn S) (or_swap (same_role Q R && same_role U S) (same_role Q (inverse R) && same_role U (inverse S)))
+    rw (turn_turn R, turn_turn S) (or_comm (same_role Q R && same_role U S) (same_role Q (inverse R) && same_role U (inverse S)))
 
 -- a pair that is in no list yet keeps the pairs apart
 push_apart : (ps : List Pair) (p : Pair) → has_pair ps p ≡ false
@@ -116,13 +106,7 @@ push_apart ps p new apart i j q e f =
 -- the pairs once a pair is used
 module _ (ps : List Pair) (p : Pair) where
   with_few : (has_pair ps p || ltb (length ps) 32) ≡ true → length ps ≤ 32 → length (with_pair ps p) ≤ 32
-  with_few room few =
-      ⊎_elim
-      (λ e. rw e few)
-      (λ e.
-      let l : ltb (length ps) 32 ≡ true = rw e at room in
-      rw e (omega (arith, length_push ps p, ltb-true (length ps) 32 l)))
-      (cases_Bool (has_pair ps p))
+  with_few room few = grind (arith, nat_tests, length_push ps p)
 
   with_in : RoleIn p.role × KindIn p.kind → ((i : ℕ) (q : Pair) → slice_get ps i ≡ Some q → RoleIn q.role × KindIn q.kind)
       → (i : ℕ) (q : Pair) → slice_get (with_pair ps p) i ≡ Some q → RoleIn q.role × KindIn q.kind

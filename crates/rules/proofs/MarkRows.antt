@@ -1,7 +1,9 @@
 -- The edges of the graph of marks, as the parts of a rule table and the table of roles have them.
 use Rattle.std.proofs.Common.{◌≡◌, ℕ, zero, suc, ◌+◌, ◌-◌, ◌*◌, ◌/◌, ◌%◌, ◌<◌, ◌≤◌, Bool, true, false, ◌&&◌, ◌||◌, eqb, ltb, leb, List, [], ◌∷◌, length, get_or, Some, None, Option, sym, refl, ap, ◌∙◌, ⊎_elim, arith}
 use Rattle.std.proofs.lemmas.List.{get_or_past}
-use Rattle.std.proofs.lemmas.Bool.{cases_eq, cases_lt, lt-ltb, le-ltb, lt-leb, le-leb, eq-eqb, ne_eqb, and_left, and_right}
+use Rattle.std.proofs.lemmas.Bool.{cases_eq, cases_lt, lt-ltb, le-ltb, le-leb, eq-eqb, ne_eqb, and_right}
+use Rattle.std.proofs.Math.Bool.{or-false}
+use Rattle.std.proofs.lemmas.Bool.Decides.{nat_tests}
 use Rattle.std.specs.List.{slice_get}
 use Rattle.league.specs.Roles.{link_of}
 use Rattle.league.specs.declared.facts.Kind.{Kind}
@@ -21,7 +23,7 @@ use Rattle.rules.proofs.Coded.{code_role, even_role, odd_role, small_mark, large
 use Rattle.rules.proofs.Flagged.{no_row}
 use Rattle.rules.proofs.Kept.{table_proper}
 use Rattle.rules.proofs.Numbered.{number_at, number_in}
-use Rattle.rules.proofs.RoleRows.{or_none}
+use Rattle.rules.proofs.RoleRows.{from_first}
 
 -- the marks of the codes of roles, on either side
 module _ (k : ℕ) (l : 64 ≤ k) where
@@ -30,37 +32,6 @@ module _ (k : ℕ) (l : 64 ≤ k) where
 
   pub backward_mark : k % 2 ≡ 1 → mark_of k ≡ Has (Backward (record { 0 = (k - 64) / 2 }))
   backward_mark z = large_mark k l ∙ ap Has (odd_role (k - 64) (omega arith))
-
--- tests joined with one that is known
-and_all : (a b : Bool) → (a || (b && true)) ≡ (a || b)
-and_all true b = refl
-and_all false true = refl
-and_all false false = refl
-
-or_and_none : (a b : Bool) → (a || (b && false)) ≡ a
-or_and_none true b = refl
-or_and_none false true = refl
-or_and_none false false = refl
-
-and_both : (a b : Bool) → (a && false) ≡ (b && false)
-and_both true true = refl
-and_both true false = refl
-and_both false true = refl
-and_both false false = refl
-
--- four tests, one after the other
-pub or_chain : (x a b c d w y z v : Bool) → w ≡ (x || a) → y ≡ (w || b) → z ≡ (y || c) → v ≡ (z || d)
-    → v ≡ (x || (a || (b || (c || d))))
-or_chain x a b c d w y z v e f g h =
-    h
-    ∙ (ap (λ (m : Bool). m || d) (g ∙ ap (λ (m : Bool). m || c) (f ∙ ap (λ (m : Bool). m || b) e))
-    ∙ grouped x a b)
-  where
-    grouped : (x a b : Bool) → ((((x || a) || b) || c) || d) ≡ (x || (a || (b || (c || d))))
-    grouped true a b = refl
-    grouped false true b = refl
-    grouped false false true = refl
-    grouped false false false = refl
 
 -- a place without a pair is not in use
 nth_none : (ps : List Pair) (i : ℕ) → None ≡ slice_get ps i → length ps ≤ i
@@ -75,15 +46,8 @@ module _ (t : RuleTable) (i k : ℕ) where
 
   pub include_row : i < 128 → flag t.inclusions.cells i k ≡ (means t).rules (Inclusion (mark_of i) (mark_of k))
   include_row l =
-      sym
-      (include_rule
-      ∙ rw (lt-ltb i 128 l)
-      (⊎_elim
-      (λ h. rw (lt-ltb k 128 h) refl)
-      (λ h.
-      rw (le-ltb k 128 h)
-      (sym (get_or_past (get_or t.inclusions.cells i []) k false (omega (arith, t.inclusions.wide i l)))))
-      (cases_lt k 128)))
+      let wide = t.inclusions.wide i l in
+      grind (arith, nat_tests, include_rule, get_or_past (get_or t.inclusions.cells i []) k false)
 
   pub include_none : 128 ≤ i → (means t).rules (Inclusion (mark_of i) (mark_of k)) ≡ false
   include_none l = include_rule ∙ rw (le-ltb i 128 l) refl
@@ -122,31 +86,19 @@ module _ (t : RuleTable) (i : ℕ) where
   needs_backward k l z = ap (needs_hidden (means t) (mark_of i)) (backward_mark k l z)
 
   -- only having a partner by a hidden link is needed
+  needs_small : (k : ℕ) → k < 64 → needs_hidden (means t) (mark_of i) (mark_of k) ≡ false
+  needs_small k l = ap (needs_hidden (means t) (mark_of i)) (small_mark k l)
+
   pub needs_low : (k : ℕ) → k < 128 → needs_hidden (means t) (mark_of i) (mark_of k) ≡ false
-  needs_low k l =
-      ⊎_elim
-      (λ h. ap (needs_hidden (means t) (mark_of i)) (small_mark k h))
-      (λ h.
-      ⊎_elim
-      (λ z.
-      needs_forward k h (omega arith)
-      ∙ and_left (leb 32 ((k - 64) / 2)) (requires_pair (means t) (mark_of i) (slice_get (means t).pairs ((k - 64) / 2 - 32))) (lt-leb 32 ((k - 64) / 2) (omega arith)))
-      (λ z. needs_backward k h (omega arith))
-      (cases_lt (k % 2) 1))
-      (cases_lt k 64)
+  needs_low k l = grind (arith, nat_tests, needs_small k, needs_forward k, needs_backward k)
+
+  -- before the first number
+  pub needs_start : (k : ℕ) → (ltb k 128 && needs_hidden (means t) (mark_of i) (mark_of k)) ≡ false
+  needs_start k = grind (arith, nat_tests, needs_low k)
 
   pub needs_none : 128 ≤ i → (k : ℕ) → needs_hidden (means t) (mark_of i) (mark_of k) ≡ false
   needs_none l k =
-      ⊎_elim
-      (needs_low k)
-      (λ h.
-      ⊎_elim
-      (λ z.
-      needs_forward k (omega arith) (omega arith)
-      ∙ and_right (leb 32 ((k - 64) / 2)) (requires_pair (means t) (mark_of i) (slice_get (means t).pairs ((k - 64) / 2 - 32))) (requires_none l (slice_get (means t).pairs ((k - 64) / 2 - 32))))
-      (λ z. needs_backward k (omega arith) (omega arith))
-      (cases_lt (k % 2) 1))
-      (cases_lt k 128)
+      grind (arith, nat_tests, needs_low k, needs_forward k, needs_backward k, requires_none l (slice_get (means t).pairs ((k - 64) / 2 - 32)))
 
   -- the flag of the pair with a number is at the code of having a partner by its hidden link
   module _ (l : i < 128) where
@@ -161,39 +113,13 @@ module _ (t : RuleTable) (i : ℕ) where
     -- past the last number nothing is needed
     pub needs_high : (k : ℕ) → 192 ≤ k → needs_hidden (means t) (mark_of i) (mark_of k) ≡ false
     needs_high k h =
-        ⊎_elim
-        (λ z.
-        needs_at ((k - 128) / 2) k (omega arith)
-        ∙ t.empty i ((k - 128) / 2) (omega (arith, (table_proper t).pairs_few)))
-        (λ z. needs_backward k (omega arith) (omega arith))
-        (cases_lt (k % 2) 1)
+        let few = (table_proper t).pairs_few in
+        grind (arith, nat_tests, needs_at ((k - 128) / 2) k, needs_backward k, t.empty i ((k - 128) / 2))
 
     -- one number more
     needs_more : (n k : ℕ) (x y : Bool) → y ≡ (x || (ltb k (128 + 2 * n) && needs_hidden (means t) (mark_of i) (mark_of k)))
         → (y || (flag t.required.cells i n && eqb k (128 + 2 * n))) ≡ (x || (ltb k (128 + 2 * (n + 1)) && needs_hidden (means t) (mark_of i) (mark_of k)))
-    needs_more n k x y e =
-        ⊎_elim
-        (λ same.
-        let f : ltb k (128 + 2 * n) ≡ false = le-ltb k (128 + 2 * n) (omega arith) in
-        let g : ltb k (128 + 2 * (n + 1)) ≡ true = lt-ltb k (128 + 2 * (n + 1)) (omega arith) in
-        let q : y ≡ x = e ∙ (ap (λ (b : Bool). x || (b && needs_hidden (means t) (mark_of i) (mark_of k))) f ∙ or_none x) in
-        rw (g, needs_at n k same, eq-eqb k (128 + 2 * n) same, q) (and_all x (flag t.required.cells i n)))
-        (λ ne.
-        rw (ne_eqb k (128 + 2 * n) ne)
-        (or_and_none y (flag t.required.cells i n) ∙ (e ∙ ap (λ (b : Bool). x || b) (further ne))))
-        (cases_eq k (128 + 2 * n))
-      where
-        further : (k ≡ 128 + 2 * n → ⊥)
-            → (ltb k (128 + 2 * n) && needs_hidden (means t) (mark_of i) (mark_of k)) ≡ (ltb k (128 + 2 * (n + 1)) && needs_hidden (means t) (mark_of i) (mark_of k))
-        further ne =
-            ⊎_elim
-            (λ h. rw (lt-ltb k (128 + 2 * n) h, lt-ltb k (128 + 2 * (n + 1)) (omega arith)) refl)
-            (λ h.
-            ⊎_elim
-            (λ (near : k < 128 + 2 * (n + 1)). rw (needs_backward k (omega arith) (omega arith)) (and_both (ltb k (128 + 2 * n)) (ltb k (128 + 2 * (n + 1)))))
-            (λ (far : 128 + 2 * (n + 1) ≤ k). rw (le-ltb k (128 + 2 * n) h, le-ltb k (128 + 2 * (n + 1)) (omega arith)) refl)
-            (cases_lt k (128 + 2 * (n + 1))))
-            (cases_lt k (128 + 2 * n))
+    needs_more n k x y e = grind (arith, nat_tests, needs_at n k, needs_backward k)
 
     -- one number more, whose flag is set or not
     pub needs_more_yes : (n k : ℕ) (x y : Bool) → flag t.required.cells i n ≡ true
@@ -205,15 +131,11 @@ module _ (t : RuleTable) (i : ℕ) where
         → y ≡ (x || (ltb k (128 + 2 * n) && needs_hidden (means t) (mark_of i) (mark_of k)))
         → y ≡ (x || (ltb k (128 + 2 * (n + 1)) && needs_hidden (means t) (mark_of i) (mark_of k)))
     needs_more_no n k x y f e =
-        (sym (or_none y) ∙ ap (λ (b : Bool). y || (b && eqb k (128 + 2 * n))) (sym f)) ∙ needs_more n k x y e
+        (sym (or-false y) ∙ ap (λ (b : Bool). y || (b && eqb k (128 + 2 * n))) (sym f)) ∙ needs_more n k x y e
 
     -- all numbers
     pub needs_all : (k : ℕ) → (ltb k 192 && needs_hidden (means t) (mark_of i) (mark_of k)) ≡ needs_hidden (means t) (mark_of i) (mark_of k)
-    needs_all k =
-        ⊎_elim
-        (λ h. rw (lt-ltb k 192 h) refl)
-        (λ h. rw (le-ltb k 192 h) (sym (needs_high k h)))
-        (cases_lt k 192)
+    needs_all k = grind (arith, nat_tests, needs_high k)
 
 -- kinds of pairs
 module _ (t : RuleTable) (i k : ℕ) where
@@ -224,15 +146,12 @@ module _ (t : RuleTable) (i k : ℕ) where
       (λ h.
       ⊎_elim
       (λ z. ap (λ (B : Mark). lands_hidden (means t) B (mark_of k)) (forward_mark i h (omega arith)))
-      (λ z.
-      ap (λ (B : Mark). lands_hidden (means t) B (mark_of k)) (backward_mark i h (omega arith))
-      ∙ visible (mark_of k))
+      (λ z. ap (λ (B : Mark). lands_hidden (means t) B (mark_of k)) (backward_mark i h (omega arith)) ∙ visible (mark_of k))
       (cases_lt (i % 2) 1))
       (cases_lt i 64)
     where
       visible : (C : Mark) → lands_hidden (means t) (Has (Backward (record { 0 = (i - 64) / 2 }))) C ≡ false
-      visible (Is m) =
-          and_left (leb 32 ((i - 64) / 2)) (of_kind (slice_get (means t).pairs ((i - 64) / 2 - 32)) m) (lt-leb 32 ((i - 64) / 2) (omega arith))
+      visible (Is m) = grind (arith, nat_tests)
       visible (Has S) = refl
 
   pub lands_even : 128 ≤ i → i % 2 ≡ 0 → lands_hidden (means t) (mark_of i) (mark_of k) ≡ false
@@ -282,15 +201,20 @@ module _ (rows : List (List Bool)) (i k : ℕ) where
       sym
       (ap (λ (B : Mark). lifts_role (entry_of rows) B (mark_of k)) (large_mark i l)
       ∙ ⊎_elim
-      (λ h.
-      ap (lifts_role (entry_of rows) (Has (role_of (i - 64)))) (small_mark k h)
-      ∙ sym (and_left (leb 64 k) (flag rows (i - 64) (k - 64)) (lt-leb 64 k h)))
-      (λ h.
-      ap (lifts_role (entry_of rows) (Has (role_of (i - 64)))) (large_mark k h)
-      ∙ rw (code_role (i - 64), code_role (k - 64), le-leb 64 k h) refl)
+      (λ h. ap (lifts_role (entry_of rows) (Has (role_of (i - 64)))) (small_mark k h) ∙ grind (arith, nat_tests))
+      (λ h. ap (lifts_role (entry_of rows) (Has (role_of (i - 64)))) (large_mark k h) ∙ rw (code_role (i - 64), code_role (k - 64), le-leb 64 k h) refl)
       (cases_lt k 64))
 
   pub lifts_high : length rows ≡ 128 → 192 ≤ i → lifts_role (entry_of rows) (mark_of i) (mark_of k) ≡ false
   lifts_high tall l =
       sym (lifts_row (omega arith))
       ∙ and_right (leb 64 k) (flag rows (i - 64) (k - 64)) (sym (no_row rows (i - 64) (k - 64) (omega arith)))
+
+-- what the functions that add the successors of a mark stand on
+pub ruleset of_inclusions = (from_first, include_row, include_none)
+
+pub ruleset of_needs = (needs_none, needs_start, needs_more_yes, needs_more_no, needs_all)
+
+pub ruleset of_landings = (lands_low, lands_even, lands_none, lands_some)
+
+pub ruleset of_lifts = (lifts_low, lifts_row, lifts_high)

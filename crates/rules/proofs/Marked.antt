@@ -1,6 +1,6 @@
 -- Marks and roles: what the same code says, and what the ranges say.
-use Rattle.std.proofs.Common.{◌≡◌, ℕ, ◌+◌, ◌<◌, Bool, true, false, not, ◌&&◌, T, eqb, is_some, sym, refl, ap, ◌∙◌, arith}
-use Rattle.std.proofs.lemmas.Bool.{eqb-true, ltb-true, and_parts, not-true, not-false}
+use Rattle.std.proofs.Common.{◌≡◌, ℕ, ◌+◌, Bool, true, false, not, ◌&&◌, T, eqb, is_some, sym, refl, ap, ◌∙◌, arith}
+use Rattle.std.proofs.lemmas.Bool.{eqb-true, ltb-true, and_parts, not-false}
 use Rattle.std.proofs.lemmas.Bool.Decides.{nat_tests}
 use Rattle.league.specs.Roles.{code, inverse, link_of}
 use Rattle.league.specs.declared.facts.Kind.{Kind}
@@ -79,14 +79,6 @@ mark_code_lem (Is k) (Has S) v w = grind (arith, nat_tests)
 mark_code_lem (Has R) (Is m) v w = grind (arith, nat_tests)
 mark_code_lem (Has R) (Has S) v w = add_code (code S) (code R) ∙ role_code R S
 
-pub role_below : (R : Role) → role_within R ≡ true → code R < 64
-role_below (Forward l) w = grind (arith, nat_tests)
-role_below (Backward l) w = grind (arith, nat_tests)
-
-pub mark_below : (B : Mark) → mark_within B ≡ true → mark_code B < 128
-mark_below (Is k) w = grind (arith, nat_tests)
-mark_below (Has R) w = omega (arith, role_below R w)
-
 -- the same ranges, as facts
 pub mark_in : (B : Mark) → mark_within B ≡ true → MarkIn B
 mark_in (Is k) w = ltb-true k.0 64 w
@@ -116,9 +108,6 @@ fault_within (Exclusion (Has R) (Has S)) = grind (arith, nat_tests)
 fault_within (Required (Is m) R k) = grind (arith, nat_tests)
 fault_within (Required (Has Q) R k) = grind (arith, nat_tests)
 fault_within (RoleInclusion R S) = grind (arith, nat_tests)
-
-pub some_without : (r : Rule) → is_some (rule_fault r) ≡ true → rule_within r ≡ false
-some_without r e = not-true (rule_within r) (sym (fault_within r) ∙ e)
 
 pub none_within : (r : Rule) → is_some (rule_fault r) ≡ false → rule_within r ≡ true
 none_within r e = not-false (rule_within r) (sym (fault_within r) ∙ e)

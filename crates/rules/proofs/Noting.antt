@@ -1,9 +1,10 @@
 -- One flag more is one rule more, in each part of a rule table.
-use Rattle.std.proofs.Common.{◌≡◌, ℕ, ◌<◌, ◌≤◌, Bool, true, false, ◌&&◌, ◌||◌, eqb, List, [], length, Some, sym, refl, ap, ◌∙◌, subst, ⊎_elim, arith}
+use Rattle.std.proofs.Common.{◌≡◌, ℕ, ◌<◌, ◌≤◌, Bool, true, false, cond, ◌&&◌, ◌||◌, eqb, List, [], length, Some, sym, refl, ap, ◌∙◌, subst, ⊎_elim, arith}
+use Rattle.std.proofs.Math.Bool.{or_comm, or_assoc, and_comm, and-true, and-false}
 use mathlib.Core.Path.{fun_ext}
 use mathlib.Core.Logic.{∥∥₁_map}
 use Rattle.std.specs.List.{slice_get}
-use Rattle.std.proofs.lemmas.Bool.{cases_Bool, and_parts, and_from, and_right, eq-eqb, ne_eqb, lt-ltb, ltb-true, ltb-false}
+use Rattle.std.proofs.lemmas.Bool.{cases_Bool, and_parts, and_right, eq-eqb, ne_eqb, lt-ltb, ltb-true, ltb-false}
 use Rattle.league.specs.Roles.{code, inverse}
 use Rattle.league.specs.declared.facts.Kind.{Kind}
 use Rattle.league.specs.declared.roles.Role.{Role}
@@ -16,7 +17,7 @@ use Rattle.rules.specs.Noted.{noted, rule_set_of}
 use Rattle.rules.specs.Pairs.{pair_of, same_pair, number_of, has_pair, with_pair}
 use Rattle.rules.specs.RuleSet.{RuleSet, no_rules, same_rule, rule_within, has_room, gained, Proper}
 use Rattle.rules.specs.declared.pair.Pair.{Pair}
-use Rattle.rules.proofs.Gained.{same-within, or_swap, and_swap, gained_proper}
+use Rattle.rules.proofs.Gained.{same-within, gained_proper}
 use Rattle.rules.proofs.Marked.{role_code, mark_code_lem, same_turned}
 use Rattle.rules.proofs.Numbered.{pair_self, pair_eq, number_at, with_number, with_has, with_length, with_other, with_has_other}
 
@@ -53,18 +54,14 @@ cell_more true x s f h k = ap (λ (b : Bool). b || f) (h refl)
 cell_more false x true f h k = k refl
 cell_more false x false f h k = refl
 
-or_assoc : (a b c : Bool) → (a || (b || c)) ≡ ((a || b) || c)
-or_assoc true b c = refl
-or_assoc false b c = refl
-
 -- the flags at the codes that a row and a column stand for
 pub at_codes : (cells after : List (List Bool)) (row column m n : ℕ) → row ≡ m → column ≡ n → More cells after row column → More cells after m n
 at_codes cells after row column m n e f h i j = rw (e, f) at (h i j)
 
 module _ (inc exc req rol : List (List Bool)) (ps : List Pair) where
-  pub gain_inclusion : (B C : Mark) (after : List (List Bool)) → mark_within B ≡ true → mark_within C ≡ true
+  pub gain_inclusion : (B C : Mark) (after : List (List Bool)) → rule_within (Inclusion B C) ≡ true
       → More inc after (mark_code B) (mark_code C) → rule_set_of after exc req rol ps ≡ gained (rule_set_of inc exc req rol ps) (Inclusion B C)
-  gain_inclusion B C after v w h =
+  gain_inclusion B C after w h =
       same_sets (λ r. rule_within r && noted after exc req rol ps r)
       (λ r. same_rule (Inclusion B C) r || (rule_within r && noted inc exc req rol ps r)) ps ps each refl
     where
@@ -74,18 +71,19 @@ module _ (inc exc req rol : List (List Bool)) (ps : List Pair) where
           ∙ cell_more (rule_within (Inclusion D E)) (eqb (mark_code D) (mark_code B) && eqb (mark_code E) (mark_code C))
           (same_mark B D && same_mark C E) (flag inc (mark_code D) (mark_code E))
           (λ u.
+          let v = and_parts (mark_within B) (mark_within C) w in
           let p = and_parts (mark_within D) (mark_within E) u in
-          rw (mark_code_lem B D v p.0, mark_code_lem C E w p.1) refl)
-          (λ e. same-within (Inclusion B C) (Inclusion D E) e (and_from (mark_within B) (mark_within C) v w))
+          rw (mark_code_lem B D v.0 p.0, mark_code_lem C E v.1 p.1) refl)
+          (λ e. same-within (Inclusion B C) (Inclusion D E) e w)
       each (Exclusion D E) = refl
       each (Required D S m) = refl
       each (RoleInclusion S U) = refl
 
-  pub gain_exclusion : (B C : Mark) (after : List (List Bool)) → mark_within B ≡ true → mark_within C ≡ true
+  pub gain_exclusion : (B C : Mark) (after : List (List Bool)) → rule_within (Exclusion B C) ≡ true
       → ((i j : ℕ)
       → flag after i j ≡ ((eqb i (mark_code C) && eqb j (mark_code B)) || ((eqb i (mark_code B) && eqb j (mark_code C)) || flag exc i j)))
       → rule_set_of inc after req rol ps ≡ gained (rule_set_of inc exc req rol ps) (Exclusion B C)
-  gain_exclusion B C after v w h =
+  gain_exclusion B C after w h =
       same_sets (λ r. rule_within r && noted inc after req rol ps r)
       (λ r. same_rule (Exclusion B C) r || (rule_within r && noted inc exc req rol ps r)) ps ps each refl
     where
@@ -96,23 +94,24 @@ module _ (inc exc req rol : List (List Bool)) (ps : List Pair) where
           let two = eqb (mark_code D) (mark_code C) && eqb (mark_code E) (mark_code B) in
           let f = flag exc (mark_code D) (mark_code E) in
           let s : flag after (mark_code D) (mark_code E) ≡ ((two || one) || f) =
-          h (mark_code D) (mark_code E) ∙ or_assoc two one f in
+          h (mark_code D) (mark_code E) ∙ sym (or_assoc two one f) in
           ap (λ (b : Bool). rule_within (Exclusion D E) && b) s
           ∙ cell_more (rule_within (Exclusion D E)) (two || one) (same_rule (Exclusion B C) (Exclusion D E)) f
           (λ u.
+          let v = and_parts (mark_within B) (mark_within C) w in
           let p = and_parts (mark_within D) (mark_within E) u in
-          rw (mark_code_lem C D w p.0, mark_code_lem B E v p.1, mark_code_lem B D v p.0, mark_code_lem C E w p.1)
-          (or_swap (same_mark C D && same_mark B E) (same_mark B D && same_mark C E)
-          ∙ ap (λ (b : Bool). (same_mark B D && same_mark C E) || b) (and_swap (same_mark C D) (same_mark B E))))
-          (λ e. same-within (Exclusion B C) (Exclusion D E) e (and_from (mark_within B) (mark_within C) v w))
+          rw (mark_code_lem C D v.1 p.0, mark_code_lem B E v.0 p.1, mark_code_lem B D v.0 p.0, mark_code_lem C E v.1 p.1)
+          (or_comm (same_mark C D && same_mark B E) (same_mark B D && same_mark C E)
+          ∙ ap (λ (b : Bool). (same_mark B D && same_mark C E) || b) (and_comm (same_mark C D) (same_mark B E))))
+          (λ e. same-within (Exclusion B C) (Exclusion D E) e w)
       each (Required D S m) = refl
       each (RoleInclusion S U) = refl
 
-  pub gain_role : (Q R : Role) (after : List (List Bool)) → role_within Q ≡ true → role_within R ≡ true
+  pub gain_role : (Q R : Role) (after : List (List Bool)) → rule_within (RoleInclusion Q R) ≡ true
       → ((i j : ℕ)
       → flag after i j ≡ ((eqb i (code (inverse Q)) && eqb j (code (inverse R))) || ((eqb i (code Q) && eqb j (code R)) || flag rol i j)))
       → rule_set_of inc exc req after ps ≡ gained (rule_set_of inc exc req rol ps) (RoleInclusion Q R)
-  gain_role Q R after v w h =
+  gain_role Q R after w h =
       same_sets (λ r. rule_within r && noted inc exc req after ps r)
       (λ r. same_rule (RoleInclusion Q R) r || (rule_within r && noted inc exc req rol ps r)) ps ps each refl
     where
@@ -125,13 +124,13 @@ module _ (inc exc req rol : List (List Bool)) (ps : List Pair) where
           let two = eqb (code S) (code (inverse Q)) && eqb (code U) (code (inverse R)) in
           let f = flag rol (code S) (code U) in
           let s : flag after (code S) (code U) ≡ ((two || one) || f) =
-          h (code S) (code U) ∙ or_assoc two one f in
+          h (code S) (code U) ∙ sym (or_assoc two one f) in
           ap (λ (b : Bool). rule_within (RoleInclusion S U) && b) s
           ∙ cell_more (rule_within (RoleInclusion S U)) (two || one) (same_rule (RoleInclusion Q R) (RoleInclusion S U)) f
           (λ u.
           rw (role_code Q S, role_code R U, role_code (inverse Q) S, role_code (inverse R) U, same_turned Q S, same_turned R U)
-          (or_swap (same_role Q (inverse S) && same_role R (inverse U)) (same_role Q S && same_role R U)))
-          (λ e. same-within (RoleInclusion Q R) (RoleInclusion S U) e (and_from (role_within Q) (role_within R) v w))
+          (or_comm (same_role Q (inverse S) && same_role R (inverse U)) (same_role Q S && same_role R U)))
+          (λ e. same-within (RoleInclusion Q R) (RoleInclusion S U) e w)
 
 -- the columns past the pairs in use have no flag
 abbrev pub Empty : List Pair → List (List Bool) → Type 0
@@ -141,11 +140,7 @@ pub empty_more : (ps : List Pair) (p : Pair) (req after : List (List Bool)) (row
 empty_more ps p req after row none h i j l =
     let d : eqb j (number_of ps p) ≡ false = ne_eqb j (number_of ps p) (λ e. omega (arith, with_has ps p)) in
     let f : flag req i j ≡ false = none i j (omega (arith, with_length ps p)) in
-    h i j ∙ rw (d, f) (and_false (eqb i row))
-  where
-    and_false : (b : Bool) → ((b && false) || false) ≡ false
-    and_false true = refl
-    and_false false = refl
+    h i j ∙ rw (d, f, and-false (eqb i row)) refl
 
 -- where a pair is not in use, its column has no flag
 guarded : (ps : List Pair) (o : Pair) (req : List (List Bool)) (i : ℕ) → Empty ps req → (has_pair ps o && flag req i (number_of ps o)) ≡ flag req i (number_of ps o)
@@ -155,17 +150,13 @@ guarded ps o req i none =
     (λ e. rw e (sym (none i (number_of ps o) (ltb-false (number_of ps o) (length ps) e))))
     (cases_Bool (has_pair ps o))
 
-and_true : (b : Bool) → (b && true) ≡ b
-and_true true = refl
-and_true false = refl
-
 -- the flag of a rule that asks for the pair which is gained: hp and hf are whether that pair is in use and the flag, as they are now
 -- and x whether this is the flag that was set; f is the flag as it was, and sp says that the pairs are one
 with_same : (w hp hf x s sp old f : Bool) → hp ≡ true → hf ≡ ((x && true) || f) → old ≡ f → sp ≡ true
     → (w ≡ true → x ≡ s) → ((s && sp) ≡ true → w ≡ true) → (w && (hp && hf)) ≡ ((s && sp) || (w && old))
 with_same w hp hf x s sp old f ep ef eo es h k =
-    let l : (hp && hf) ≡ (x || f) = rw (ep, ef, and_true x) refl in
-    let m : (s && sp) ≡ s = rw es (and_true s) in
+    let l : (hp && hf) ≡ (x || f) = rw (ep, ef, and-true x) refl in
+    let m : (s && sp) ≡ s = rw es (and-true s) in
     let c : (w && (x || f)) ≡ (s || (w && f)) = cell_more w x s f h (λ e. k (m ∙ e)) in
     rw (l, m, eo) c
 
@@ -173,19 +164,9 @@ with_same w hp hf x s sp old f ep ef eo es h k =
 with_another : (w hp hf x y s sp old f : Bool) → hp ≡ old → (old ≡ true → hf ≡ ((x && y) || f)) → (old ≡ true → y ≡ false) → sp ≡ false
     → (w && (hp && hf)) ≡ ((s && sp) || (w && (old && f)))
 with_another w hp hf x y s sp true f ep ef ey es =
-    let l : hf ≡ f = ef refl ∙ rw (ey refl) (and_none x f) in
-    rw (ep, l, es) (sym (and_none s (w && f)))
-  where
-    and_none : (a b : Bool) → ((a && false) || b) ≡ b
-    and_none true b = refl
-    and_none false b = refl
-with_another w hp hf x y s sp false f ep ef ey es = rw (ep, es) (both w s)
-  where
-    both : (a b : Bool) → (a && false) ≡ ((b && false) || (a && false))
-    both true true = refl
-    both true false = refl
-    both false true = refl
-    both false false = refl
+    let l : hf ≡ f = ef refl ∙ rw (ey refl, and-false x) refl in
+    rw (ep, l, es, and-false s) refl
+with_another w hp hf x y s sp false f ep ef ey es = rw (ep, es, and-false w, and-false s) refl
 
 -- a required partner more, of a pair that is in use now
 module _ (inc exc req rol : List (List Bool)) (ps : List Pair) (B : Mark) (R : Role) (k : Kind) (after : List (List Bool)) (v : rule_within (Required B R k) ≡ true)
@@ -254,6 +235,10 @@ module _ (inc exc req rol : List (List Bool)) (ps : List Pair) (B : Mark) (R : R
       each (Required D S m) = ⊎_elim (right_same D S m) (right_other D S m) (cases_Bool (same_pair (pair_of R k) (pair_of S m)))
       each (RoleInclusion S U) = refl
 
--- what every table keeps is kept by one that holds a rule more
-pub kept : (s t : RuleSet) (r : Rule) → rule_within r ≡ true → has_room s.pairs r ≡ true → t ≡ gained s r → ∥ Proper s ∥₁ → ∥ Proper t ∥₁
-kept s t r w room e p = ∥∥₁_map p (λ q. subst Proper (sym e) (gained_proper s r w room q))
+-- a rule r in range is q, which finds room and is gained: what every table keeps is kept, and what is held is as it should be
+module _ (s t : RuleSet) (r q : Rule) (is : r ≡ q) (within : rule_within r ≡ true) (room : has_room s.pairs q ≡ true) (more : t ≡ gained s q) where
+  pub kept : ∥ Proper s ∥₁ → ∥ Proper t ∥₁
+  kept p = ∥∥₁_map p (λ z. subst Proper (sym more) (gained_proper s q (subst (λ (x : Rule). rule_within x ≡ true) is within) room z))
+
+  pub held : t ≡ cond (has_room s.pairs r) (gained s r) s
+  held = rw (is, room) more

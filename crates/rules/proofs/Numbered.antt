@@ -1,10 +1,11 @@
 -- The number of a pair, and what one pair more at the end changes of it.
-use Rattle.std.proofs.Common.{◌≡◌, ℕ, zero, suc, ◌+◌, ◌<◌, ◌≤◌, Bool, true, false, cond, ◌⊎◌, List, [], ◌∷◌, ◌++◌, length, Some, Ok, Err, Result, sym, refl, ap, ◌∙◌, inl, inr, ⊎_elim, arith}
+use Rattle.std.proofs.Common.{◌≡◌, ℕ, zero, suc, ◌+◌, ◌<◌, ◌≤◌, Bool, true, false, cond, ◌⊎◌, List, [], ◌∷◌, ◌++◌, length, Some, Ok, Err, Result, refl, ap, inl, inr, ⊎_elim, arith}
 use Rattle.std.specs.List.{slice_get}
 use Rattle.league.specs.declared.faults.BookFault.{BookFault}
 use Rattle.league.specs.declared.faults.BookFault.TheVariants.{Pairs as NoRoom}
 use Rattle.std.proofs.lemmas.List.{length_push}
-use Rattle.std.proofs.lemmas.Bool.{cases_Bool, and_parts, and_from, lt-ltb, ltb-true, ltb-false, le-ltb}
+use Rattle.std.proofs.lemmas.Bool.{cases_Bool, and_parts, and_from}
+use Rattle.std.proofs.lemmas.Bool.Decides.{nat_tests}
 use Rattle.rules.specs.Marks.{same_kind, same_role}
 use Rattle.rules.specs.Pairs.{same_pair, number_of, has_pair, with_pair}
 use Rattle.rules.specs.declared.pair.Pair.{Pair}
@@ -22,11 +23,7 @@ pair_eq p q e =
 
 pub number_le : (ps : List Pair) (p : Pair) → number_of ps p ≤ length ps
 number_le [] p = omega arith
-number_le (q ∷ qs) p =
-    ⊎_elim
-    (λ e. rw e (omega arith))
-    (λ e. rw e (omega (arith, number_le qs p)))
-    (cases_Bool (same_pair q p))
+number_le (q ∷ qs) p = grind (arith, nat_tests, number_le qs p)
 
 -- the pair at its number
 pub number_at : (ps : List Pair) (p : Pair) → number_of ps p < length ps → slice_get ps (number_of ps p) ≡ Some p
@@ -43,11 +40,7 @@ number_in [] p i e = let z : ◌≡◌ {A = ℕ} 0 1 = cc in omega arith
 number_in (q ∷ qs) p zero e =
     let f : q ≡ p = cc in
     rw (f, pair_self p) (omega arith)
-number_in (q ∷ qs) p (suc i) e =
-    ⊎_elim
-    (λ f. rw f (omega arith))
-    (λ f. rw f (omega (arith, number_in qs p i e)))
-    (cases_Bool (same_pair q p))
+number_in (q ∷ qs) p (suc i) e = grind (arith, nat_tests, number_in qs p i e)
 
 -- what stands in a list with one pair more stood in it before, or is that pair at the end
 pub nth_push : (ps : List Pair) (p q : Pair) (i : ℕ) → slice_get (ps ++ (p ∷ [])) i ≡ Some q → (slice_get ps i ≡ Some q) ⊎ ((i ≡ length ps) × (q ≡ p))
@@ -64,71 +57,31 @@ module _ (p : Pair) where
 
   pub number_push_in : (ps : List Pair) (o : Pair) → number_of ps o < length ps → number_of (ps ++ (p ∷ [])) o ≡ number_of ps o
   number_push_in [] o l = omega arith
-  number_push_in (q ∷ qs) o l =
-      ⊎_elim
-      (λ e. rw e refl)
-      (λ e. rw e (ap suc (number_push_in qs o (let m : suc (number_of qs o) < suc (length qs) = rw e at l in omega arith))))
-      (cases_Bool (same_pair q o))
+  number_push_in (q ∷ qs) o l = grind (arith, nat_tests, number_push_in qs o)
 
   pub number_push_out : (ps : List Pair) (o : Pair) → same_pair p o ≡ false → number_of ps o ≡ length ps → number_of (ps ++ (p ∷ [])) o ≡ length ps + 1
   number_push_out [] o d l = rw d refl
-  number_push_out (q ∷ qs) o d l =
-      ⊎_elim
-      (λ e. let m : 0 ≡ suc (length qs) = rw e at l in omega arith)
-      (λ e.
-      let m : suc (number_of qs o) ≡ suc (length qs) = rw e at l in
-      let k = number_push_out qs o d (omega arith) in
-      rw e (omega (arith, k)))
-      (cases_Bool (same_pair q o))
+  number_push_out (q ∷ qs) o d l = grind (arith, nat_tests, number_push_out qs o)
 
 -- the pairs once a pair is used
 module _ (ps : List Pair) (p : Pair) where
   pub with_number : number_of (with_pair ps p) p ≡ number_of ps p
-  with_number =
-      ⊎_elim
-      (λ e. rw e refl)
-      (λ e. rw e (number_push p ps))
-      (cases_Bool (has_pair ps p))
+  with_number = grind (arith, nat_tests, number_push p ps)
 
   pub with_has : number_of ps p < length (with_pair ps p)
-  with_has =
-      ⊎_elim
-      (λ e. rw e (ltb-true (number_of ps p) (length ps) e))
-      (λ e. rw e (omega (arith, length_push ps p, number_le ps p)))
-      (cases_Bool (has_pair ps p))
+  with_has = grind (arith, nat_tests, length_push ps p, number_le ps p)
 
   pub with_length : length ps ≤ length (with_pair ps p)
-  with_length =
-      ⊎_elim
-      (λ e. rw e (omega arith))
-      (λ e. rw e (omega (arith, length_push ps p)))
-      (cases_Bool (has_pair ps p))
+  with_length = grind (arith, nat_tests, length_push ps p)
 
   -- a pair that was in use has the number it had
   pub with_other : (o : Pair) → number_of ps o < length ps → number_of (with_pair ps p) o ≡ number_of ps o
-  with_other o l =
-      ⊎_elim
-      (λ e. rw e refl)
-      (λ e. rw e (number_push_in p ps o l))
-      (cases_Bool (has_pair ps p))
+  with_other o l = grind (arith, nat_tests, number_push_in p ps o l)
 
   -- another pair is in use exactly when it was
   pub with_has_other : (o : Pair) → same_pair p o ≡ false → has_pair (with_pair ps p) o ≡ has_pair ps o
   with_has_other o d =
-      ⊎_elim
-      (λ e. rw e refl)
-      (λ e.
-      rw e
-      (⊎_elim
-      (λ f.
-      let l = ltb-true (number_of ps o) (length ps) f in
-      rw (number_push_in p ps o l, length_push ps p) (lt-ltb (number_of ps o) (length ps + 1) (omega arith) ∙ sym f))
-      (λ f.
-      let l : number_of ps o ≡ length ps = omega (arith, number_le ps o, ltb-false (number_of ps o) (length ps) f) in
-      let m : length ps + 1 ≤ length ps + 1 = omega arith in
-      rw (number_push_out p ps o d l, length_push ps p) (le-ltb (length ps + 1) (length ps + 1) m ∙ sym f))
-      (cases_Bool (has_pair ps o))))
-      (cases_Bool (has_pair ps p))
+      grind (arith, nat_tests, number_push_in p ps o, number_push_out p ps o, length_push ps p, number_le ps o)
 
 -- a number that was given out: there was room, and it is the pair's number
 module _ (room : Bool) (n m : ℕ) (e : ◌≡◌ {A = Result ℕ BookFault} (Ok n) (cond room (Ok m) (Err NoRoom))) where

@@ -1,6 +1,7 @@
 -- Pairs in use: how many, at which number, and one pair more.
-use Rattle.std.proofs.Common.{◌≡◌, ℕ, ◌+◌, ◌<◌, ◌≤◌, Bool, true, false, List, ◌∷◌, length, get_or, drop, refl, ap, ◌∙◌, arith}
-use Rattle.std.proofs.lemmas.List.{length-take-le, drop_more, drop_all}
+use Rattle.std.proofs.Common.{◌≡◌, ℕ, suc, ◌+◌, Bool, true, false, cond, not, List, [], ◌∷◌, length, refl, arith}
+use Rattle.std.specs.List.{position_or_len}
+use Rattle.std.proofs.lemmas.List.{length-take-le}
 use Rattle.std.proofs.lemmas.Bool.Decides.{nat_tests}
 use Rattle.league.specs.declared.facts.Kind.{Kind}
 use Rattle.league.specs.declared.roles.Role.{Role}
@@ -28,21 +29,11 @@ pair_equals (Backward l) (Backward n) k m false h = grind (arith, nat_tests)
 pub same_from_equals : (p q : Pair) (r : Bool) → (r ≡ ghosts.eq p q) → r ≡ same_pair p q
 same_from_equals p q r h = pair_equals p.role q.role p.kind q.kind r h
 
--- a pair to read past the end of a list
-abbrev pub unused : Pair
-unused = pair_of (Forward (record { 0 = 0 })) (record { 0 = 0 })
+-- the number of a pair is the first place that has it
+number_step : (here : Bool) (m n : ℕ) → m ≡ n → cond (not here) (1 + m) 0 ≡ cond here 0 (suc n)
+number_step true m n e = refl
+number_step false m n e = omega arith
 
--- the number of a pair, looked for from a place on
-module _ (ps : List Pair) (i : ℕ) (p : Pair) where
-  number-next : i < length ps → i + number_of (drop i ps) p ≡ i + number_of (get_or ps i unused ∷ drop (i + 1) ps) p
-  number-next l = ap (λ (qs : List Pair). i + number_of qs p) (drop_more ps i unused l)
-
-  pub number_passed : i < length ps → same_pair (get_or ps i unused) p ≡ false
-      → i + number_of (drop i ps) p ≡ (i + 1) + number_of (drop (i + 1) ps) p
-  number_passed l d = number-next l ∙ rw d (omega arith)
-
-  pub number_found : i < length ps → same_pair (get_or ps i unused) p ≡ true → i + number_of (drop i ps) p ≡ i
-  number_found l d = number-next l ∙ rw d (omega arith)
-
-  pub number_none : length ps ≤ i → i ≤ length ps → i + number_of (drop i ps) p ≡ length ps
-  number_none l m = ap (λ (qs : List Pair). i + number_of qs p) (drop_all i ps l) ∙ omega arith
+pub number_of_lem : (ps : List Pair) (p : Pair) → position_or_len (λ q. same_pair q p) ps ≡ number_of ps p
+number_of_lem [] p = refl
+number_of_lem (q ∷ qs) p = number_step (same_pair q p) (position_or_len (λ o. same_pair o p) qs) (number_of qs p) (number_of_lem qs p)

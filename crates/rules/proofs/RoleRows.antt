@@ -1,8 +1,9 @@
 -- The edges of the graph of roles, as the parts of a rule table have them.
-use Rattle.std.proofs.Common.{◌≡◌, ℕ, ◌-◌, ◌/◌, ◌%◌, ◌<◌, ◌≤◌, Bool, true, false, ◌&&◌, ◌||◌, eqb, ltb, leb, List, [], get_or, Some, None, Option, sym, refl, ap, ◌∙◌, ⊎_elim, arith}
+use Rattle.std.proofs.Common.{◌≡◌, ℕ, ◌-◌, ◌/◌, ◌%◌, ◌<◌, ◌≤◌, Bool, false, ◌&&◌, eqb, ltb, leb, List, [], get_or, Some, None, Option, sym, refl, ap, ◌∙◌, ⊎_elim, arith}
 use Rattle.std.proofs.lemmas.List.{get_or_past}
-use Rattle.std.proofs.lemmas.Bool.{cases_lt, lt-ltb, le-ltb, lt-leb, le-leb, eq-eqb, ne_eqb, and_left}
+use Rattle.std.proofs.lemmas.Bool.{cases_lt, le-ltb, lt-leb, le-leb, eq-eqb, ne_eqb, and_left}
 use Rattle.std.specs.List.{slice_get}
+use Rattle.std.proofs.lemmas.Bool.Decides.{nat_tests}
 use Rattle.league.specs.Roles.{code, inverse, link_of}
 use Rattle.league.specs.declared.roles.Role.{Role}
 use Rattle.league.specs.declared.roles.Role.TheVariants.{Forward, Backward}
@@ -20,18 +21,7 @@ use Rattle.rules.proofs.Marked.{same_turned}
 
 -- a row that begins at the first node
 pub from_first : (row : List Bool) (k : ℕ) → (leb 0 k && get_or row (k - 0) false) ≡ get_or row k false
-from_first row k =
-    let e : k - 0 ≡ k = omega arith in
-    rw (le-leb 0 k (omega arith)) (ap (λ (n : ℕ). get_or row n false) e)
-
--- nothing more in a set
-pub or_nothing : (x y : Bool) → y ≡ false → x ≡ (x || y)
-or_nothing true y e = refl
-or_nothing false y e = sym e
-
-pub or_none : (b : Bool) → (b || false) ≡ b
-or_none true = refl
-or_none false = refl
+from_first row k = grind (arith, nat_tests)
 
 -- a role that rules may name is no hidden link
 low_hidden : (s : RuleSet) (R S : Role) → (link_of R).0 < 32 → hidden_under s R S ≡ false
@@ -46,14 +36,8 @@ module _ (t : RuleTable) (i k : ℕ) where
   -- the row of a role that rules may name
   pub role_row_lem : i < 64 → flag t.roles.cells i k ≡ role_step (means t) i k
   role_row_lem l =
-      sym
-      (rw (role_rule, lt-ltb i 64 l, low_hidden (means t) (role_of i) (role_of k) (link_below i 32 l))
-      (⊎_elim
-      (λ h. rw (lt-ltb k 64 h) (or_none (flag t.roles.cells i k)))
-      (λ h.
-      rw (le-ltb k 64 h)
-      (sym (get_or_past (get_or t.roles.cells i []) k false (omega (arith, t.roles.wide i l)))))
-      (cases_lt k 64)))
+      let wide = t.roles.wide i l in
+      grind (arith, nat_tests, role_rule, low_hidden (means t) (role_of i) (role_of k) (link_below i 32 l), get_or_past (get_or t.roles.cells i []) k false)
 
   -- a hidden link stands under the role of its pair, on the same side
   hidden_row : 64 ≤ i → role_step (means t) i k ≡ hidden_under (means t) (role_of i) (role_of k)
@@ -91,3 +75,8 @@ module _ (t : RuleTable) (i k : ℕ) where
           (λ h. rw (eq-eqb (i % 2) 0 (omega arith)) refl)
           (λ h. rw (ne_eqb (i % 2) 0 (omega arith)) (sym (same_turned p.role (role_of k))))
           (cases_lt (i % 2) 1)
+
+-- what the functions that add the roles above a role stand on
+pub ruleset of_visible_links = (from_first, role_row_lem)
+
+pub ruleset of_hidden_links = (no_pair_row, pair_row)

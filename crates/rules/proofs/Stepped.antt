@@ -1,6 +1,7 @@
 -- The tests of what the rules give at once say the same as the edges, and edges join only what is in the tables.
-use Rattle.std.proofs.Common.{◌≡◌, ℕ, zero, suc, ◌+◌, ◌-◌, ◌<◌, ◌≤◌, Bool, true, false, ◌&&◌, ◌||◌, T, leb, ◌⊎◌, List, [], ◌∷◌, length, Some, None, Option, sym, refl, ap, ◌∙◌, subst, inl, inr, ⊎_elim, arith}
+use Rattle.std.proofs.Common.{◌≡◌, ℕ, ◌+◌, ◌-◌, ◌<◌, ◌≤◌, Bool, true, false, ◌&&◌, ◌||◌, T, leb, ◌⊎◌, Some, None, Option, sym, refl, ap, ◌∙◌, subst, inl, inr, ⊎_elim, arith}
 use Rattle.std.proofs.lemmas.Bool.{leb-true, le-leb}
+use Rattle.std.proofs.lemmas.Option.{slice_get_within}
 use Rattle.std.specs.List.{slice_get}
 use Rattle.graph.proofs.Reaching.{or_in, in_left, in_right}
 use Rattle.graph.proofs.Stars.{star_ends}
@@ -28,12 +29,6 @@ in_both false y t = absurd t
 from_both : (x y : Bool) → T x → T y → T (x && y)
 from_both true y t u = u
 from_both false y t u = absurd t
-
--- what has a number is below the length
-pub nth-below : (ps : List Pair) (i : ℕ) (p : Pair) → slice_get ps i ≡ Some p → i < length ps
-nth-below [] i p e = let z : ◌≡◌ {A = ℕ} 0 1 = cc in absurd (omega arith)
-nth-below (q ∷ qs) zero p e = omega arith
-nth-below (q ∷ qs) (suc i) p e = omega (arith, nth-below qs i p e)
 
 -- the roles and marks of the tables: kinds below 64, and links below 64, of which the upper half are hidden
 abbrev pub RoleFits : Role → Type 0
@@ -155,7 +150,7 @@ module _ (s : RuleSet) where
         (pair_role (slice_get s.pairs ((32 + i) - 32)) R k (at-hidden i R k h))))
 
     few : (i : ℕ) (R : Role) (k : Kind) → Hides s i R k → 32 + i < 64
-    few i R k h = omega (arith, nth-below s.pairs i (pair_of R k) h, proper.pairs_few)
+    few i R k h = omega (arith, slice_get_within s.pairs i (pair_of R k) h, proper.pairs_few)
 
     pub edge_fits : {R S : Role} → RoleEdge s R S → RoleFits R × RoleFits S
     edge_fits (under R S t) =

@@ -2,11 +2,8 @@
 #![tactic(auto)]
 
 pub mod consequences;
-pub mod entries;
-mod flags;
-pub mod following;
+pub mod flags;
 mod mark_graph;
-mod numbering;
 pub mod pair;
 mod pairs;
 mod ranges;

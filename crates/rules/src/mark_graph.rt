@@ -1,5 +1,5 @@
 //! The rules as a graph of marks, by code: an edge leads from a mark to each that the rules, or a role above its role, put above it at once.
-ghost use Rattle.std.specs.Prelude.{◌≡◌, ℕ, ◌<◌, false, ◌||◌, length, slice_index_or};
+ghost use Rattle.graph.specs.Paths.{Adds};
 ghost use Rattle.league.specs.declared.rules.Rule.TheVariants.{Inclusion as Included};
 ghost use Rattle.rules.specs.Codes.{mark_of};
 ghost use Rattle.rules.specs.Steps.{needs_hidden, lands_hidden, lifts_role, entry_of, mark_step};
@@ -17,57 +17,53 @@ pub struct MarkGraph<'a> {
     pub below: &'a Flags<128, 128>,
 }
 
+// A table, a node and a set stand together in what adds to the set: node and set are what the trait of graphs hands over.
 /// Adds the marks that an accepted inclusion puts above a mark.
+#[tactic(auto, using(crate::proofs::MarkRows::of_inclusions))]
 fn add_included(table: &RuleTable, node: usize, set: &mut [bool])
-    ensures { (k : ℕ) → k < length set.old → slice_index_or set.new k false ≡ (slice_index_or set.old k false || (means table.now).rules (Included (mark_of node) (mark_of k))) }
+    ensures { Adds set.old set.new (λ k. (means table.now).rules (Included (mark_of node) (mark_of k))) }
 {
-    if node >= 128 {
-        return;
+    if node < 128 {
+        add_row(table.inclusions.row(node), 0, set);
     }
-    add_row(&table.inclusions.row(node), 0, set);
 }
 
 /// Adds having a partner by the hidden link of each pair that a mark requires.
+#[tactic(auto, using(crate::proofs::MarkRows::of_needs))]
 fn add_needed(table: &RuleTable, node: usize, set: &mut [bool])
-    ensures { (k : ℕ) → k < length set.old → slice_index_or set.new k false ≡ (slice_index_or set.old k false || needs_hidden (means table.now) (mark_of node) (mark_of k)) }
+    ensures { Adds set.old set.new (λ k. needs_hidden (means table.now) (mark_of node) (mark_of k)) }
 {
     if node >= 128 {
         return;
     }
-    for number in 0..32 {
-        if table.required.has(node, number) {
+    for (number, is_required) in table.required.row(node).iter().enumerate() {
+        if *is_required {
             add_node(128 + 2 * number, set);
         }
     }
 }
 
 /// Adds the kind of the pair where a mark is being the partner by its hidden link.
+#[tactic(auto, using(crate::proofs::MarkRows::of_landings))]
 fn add_landed(table: &RuleTable, node: usize, set: &mut [bool])
-    ensures { (k : ℕ) → k < length set.old → slice_index_or set.new k false ≡ (slice_index_or set.old k false || lands_hidden (means table.now) (mark_of node) (mark_of k)) }
+    ensures { Adds set.old set.new (λ k. lands_hidden (means table.now) (mark_of node) (mark_of k)) }
 {
-    if node < 128 {
+    if node < 128 || node % 2 == 0 {
         return;
     }
-    if node % 2 == 0 {
-        return;
+    if let Some(pair) = table.pair((node - 128) / 2) {
+        add_node(usize::from(pair.kind.0), set);
     }
-    let Some(pair) = table.pair((node - 128) / 2) else {
-        return;
-    };
-    add_node(pair.kind.0 as usize, set);
 }
 
 /// Adds having a partner by each role above the role of a mark.
+#[tactic(auto, using(crate::proofs::MarkRows::of_lifts))]
 fn add_lifted(below: &Flags<128, 128>, node: usize, set: &mut [bool])
-    ensures { (k : ℕ) → k < length set.old → slice_index_or set.new k false ≡ (slice_index_or set.old k false || lifts_role (entry_of below.now.cells) (mark_of node) (mark_of k)) }
+    ensures { Adds set.old set.new (λ k. lifts_role (entry_of below.now.cells) (mark_of node) (mark_of k)) }
 {
-    if node < 64 {
-        return;
+    if (64..192).contains(&node) {
+        add_row(below.row(node - 64), 64, set);
     }
-    if node >= 192 {
-        return;
-    }
-    add_row(&below.row(node - 64), 64, set);
 }
 
 impl<'a> Graph for MarkGraph<'a> {

@@ -1,110 +1,181 @@
 -- Flagging what is forced, until nothing more is: the flagged pairs are those that are forced to one path.
-use Rattle.std.proofs.Common.{◌≡◌, ℕ, ◌+◌, ◌*◌, ◌/◌, ◌%◌, ◌<◌, Bool, true, false, cond, not, eqb, ltb, List, length, get_or, set, count_by, sym, refl, ap, ◌∙◌, subst, inl, inr, ⊎_elim, arith, length-set, get_or-set_other, get_or-set_same}
-use Rattle.std.proofs.lemmas.List.Sums.{sum_by-set}
-use Rattle.std.proofs.lemmas.Bool.{and_parts, and_from, lt-ltb, ltb-true, eq-eqb, eqb-true, cases_Bool, cases_eq, both_ways}
+use Rattle.std.proofs.Common.{◌≡◌, ℕ, zero, suc, ◌+◌, ◌*◌, ◌/◌, ◌%◌, ◌<◌, ◌≤◌, Bool, true, false, cond, ◌&&◌, ◌||◌, eqb, List, [], length, get_or, sym, refl, ap, ◌∙◌, subst, inl, inr, ⊎_elim, arith}
+use Rattle.std.proofs.lemmas.Bool.{and_parts, and_from, or_cases, or_left, or_right, eq-eqb, eqb-true, cases_Bool, cases_lt, both_ways}
+use Rattle.rules.proofs.Flagged.{no_row, no_column}
 use Rattle.rules.proofs.Marked.{T_true as is_true, true_T as holds}
-use Rattle.search.specs.Forcing.{flag_at, Forced, ForcedNow, Decides}
+use Rattle.rules.specs.Flags.{flag}
+use Rattle.search.specs.Forcing.{Forced, ForcedNow, Decides}
 
 -- a flag that is set is at two places below eight
-pub flag_parts : (table : List Bool) (i j : ℕ) → flag_at table i j ≡ true → (i < 8) × (j < 8) × (get_or table (8 * i + j) false ≡ true)
-unfolding flag_at
-flag_parts table i j e =
-    let a = and_parts (ltb i 8) _ e
-    in let b = and_parts (ltb j 8) _ a.1
-    in (ltb-true i 8 a.0, ltb-true j 8 b.0, b.1)
+abbrev pub Within : List (List Bool) → Type 0
+Within table = (i j : ℕ) → flag table i j ≡ true → (i < 8) × (j < 8)
 
-pub flag_made : (table : List Bool) (i j : ℕ) → i < 8 → j < 8 → get_or table (8 * i + j) false ≡ true → flag_at table i j ≡ true
-unfolding flag_at
-flag_made table i j h k e = and_from (ltb i 8) _ (lt-ltb i 8 h) (and_from (ltb j 8) _ (lt-ltb j 8 k) e)
+pub within : (table : List (List Bool)) → length table ≡ 8 → ((i : ℕ) → i < 8 → length (get_or table i []) ≡ 8) → Within table
+within table tall wide i j e = (row, column)
+  where
+    row : i < 8
+    row = ⊎_elim (λ l. l) (λ l. absurd (both_ways (flag table i j) (sym (no_row table i j (omega (arith, tall)))) e)) (cases_lt i 8)
 
--- the pair with a number
-pub flag_pair : (table : List Bool) (p : ℕ) → p < 64 → get_or table p false ≡ true → flag_at table (p / 8) (p % 8) ≡ true
-flag_pair table p h e =
-    let q : 8 * (p / 8) + p % 8 ≡ p = omega arith
-    in flag_made table (p / 8) (p % 8) (omega arith) (omega arith) (ap (λ n. get_or table n false) q ∙ e)
+    column : j < 8
+    column = ⊎_elim (λ l. l) (λ l. absurd (both_ways (flag table i j) (sym (no_column table i j (omega (arith, wide i row)))) e)) (cases_lt j 8)
 
--- fewer pairs are left once one more is flagged
-pub fewer_left : (same : List Bool) (p : ℕ) → p < length same → get_or same p false ≡ false → count_by not (set same p true) < count_by not same
-fewer_left same p l e =
-    let m : count_by not (set same p true) + cond (not (get_or same p false)) 1 0 ≡ count_by not same + 0 =
-    sum_by-set (λ x. cond (not x) 1 0) same p true false l
-    in let n : cond {A = ℕ} (not (get_or same p false)) 1 0 ≡ 1 = rw e refl
-    in omega arith
+-- how many of the first n flags are not set
+unfoldable pub unset : (ℕ → Bool) → ℕ → ℕ
+unset f zero = 0
+unset f (suc n) = unset f n + cond (f n) 0 1
 
-module _ (down : List Bool) where
-  -- what is flagged is forced, and each place is flagged with itself
-  pub record Flagged (same : List Bool) : Type 0 where
-    pub long : length same ≡ 64
-    pub sound : (i j : ℕ) → flag_at same i j ≡ true → Forced (flag_at down) i j
-    pub own : (i : ℕ) → i < 8 → flag_at same i i ≡ true
-
-  pub flagged_first : (same : List Bool) → length same ≡ 64 → ((p : ℕ) → p < 64 → get_or same p false ≡ eqb (p / 8) (p % 8)) → Flagged same
-  flagged_first same l d = record {
-    long = l;
-    sound = λ i j e.
-        let a = flag_parts same i j e
-        in let q : (8 * i + j) / 8 ≡ i = omega (arith, a.0, a.1)
-        in let r : (8 * i + j) % 8 ≡ j = omega (arith, a.0, a.1)
-        in let s : i ≡ j = omega (arith, q, r, eqb-true ((8 * i + j) / 8) ((8 * i + j) % 8) (sym (d (8 * i + j) (omega (arith, a.0, a.1))) ∙ a.2))
-        in subst (λ k. Forced (flag_at down) i k) s (Forced.self i);
-    own = λ i h.
-        let q : (8 * i + i) / 8 ≡ i = omega arith
-        in let r : (8 * i + i) % 8 ≡ i = omega arith
-        in flag_made same i i h h (d (8 * i + i) (omega arith) ∙ eq-eqb ((8 * i + i) / 8) ((8 * i + i) % 8) (q ∙ sym r));
-  }
-
-  forced_now_lem : (same : List Bool) → Flagged same → (i j : ℕ) → ForcedNow (flag_at down) (flag_at same) i j → Forced (flag_at down) i j
-  forced_now_lem same f i j (inl m) = Forced.onward i m.0 j (f.sound i m.0 m.2) (f.sound m.0 j m.3)
-  forced_now_lem same f i j (inr m) =
-      Forced.above i j m.0 m.3.0 (f.sound m.0 m.3.0 m.3.3) (holds _ m.2) (holds _ m.3.2)
-
-  pub flagged_more : (same : List Bool) (p : ℕ) → Flagged same → p < 64 → ForcedNow (flag_at down) (flag_at same) (p / 8) (p % 8) → Flagged (set same p true)
-  flagged_more same p f h now = record {
-    long = length-set same p true ∙ f.long;
-    sound = λ i j e.
-        let a = flag_parts (set same p true) i j e
-        in ⊎_elim
-        (λ q. let r : p / 8 ≡ i = omega (arith, a.0, a.1)
-        in let m : p % 8 ≡ j = omega (arith, a.0, a.1)
-        in subst (λ b. Forced (flag_at down) i b) m (subst (λ b. Forced (flag_at down) b (p % 8)) r (forced_now_lem same f (p / 8) (p % 8) now)))
-        (λ ne. f.sound i j (flag_made same i j a.0 a.1 (sym (get_or-set_other same p (8 * i + j) true false ne) ∙ a.2)))
-        (cases_eq (8 * i + j) p);
-    own = λ i l. flag_made (set same p true) i i l l (kept i l);
-  }
+module _ (f g : ℕ → Bool) (more : (k : ℕ) → f k ≡ true → g k ≡ true) where
+  one_left : (k : ℕ) → cond {A = ℕ} (g k) 0 1 ≤ cond (f k) 0 1
+  one_left k = go (f k) (g k) (more k)
     where
-      kept : (i : ℕ) → i < 8 → get_or (set same p true) (8 * i + i) false ≡ true
-      kept i l =
-          ⊎_elim (λ q. ap (λ n. get_or (set same p true) n false) q ∙ get_or-set_same same p true false (omega (arith, f.long)))
-          (λ ne. get_or-set_other same p (8 * i + i) true false ne ∙ (flag_parts same i i (f.own i l)).2)
-          (cases_eq (8 * i + i) p)
+      go : (a b : Bool) → (a ≡ true → b ≡ true) → cond {A = ℕ} b 0 1 ≤ cond a 0 1
+      go true b h = rw (h refl) (omega arith)
+      go false true h = omega arith
+      go false false h = omega arith
+
+  no_more_left : (n : ℕ) → unset g n ≤ unset f n
+  unfolding unset
+  no_more_left zero = omega arith
+  no_more_left (suc n) = omega (arith, no_more_left n, one_left n)
+
+  -- fewer are left once one more is set
+  pub fewer_left : (n p : ℕ) → p < n → f p ≡ false → g p ≡ true → unset g n < unset f n
+  unfolding unset
+  fewer_left zero p l a b = absurd (omega arith)
+  fewer_left (suc n) p l a b =
+      ⊎_elim
+      (λ h. omega (arith, fewer_left n p h a b, one_left n))
+      (λ h. let q : p ≡ n = omega arith
+      in let x : cond {A = ℕ} (f n) 0 1 ≡ 1 = ap (λ z. cond z 0 1) (ap f (sym q) ∙ a)
+      in let y : cond {A = ℕ} (g n) 0 1 ≡ 0 = ap (λ z. cond z 0 1) (ap g (sym q) ∙ b)
+      in omega (arith, no_more_left n))
+      (cases_lt p n)
+
+-- how many pairs of places are not flagged
+abbrev pub pairs_left : List (List Bool) → ℕ
+pairs_left table = unset (λ p. flag table (p / 8) (p % 8)) 64
+
+-- a table with one more flag
+abbrev pub IsSet : List (List Bool) → ℕ → ℕ → List (List Bool) → Type 0
+IsSet before row column after = (i j : ℕ) → flag after i j ≡ ((eqb i row && eqb j column) || flag before i j)
+
+module _ (before after : List (List Bool)) (row column : ℕ) (set : IsSet before row column after) where
+  pub kept : (i j : ℕ) → flag before i j ≡ true → flag after i j ≡ true
+  kept i j e = set i j ∙ or_right (eqb i row && eqb j column) _ e
+
+  pub set_there : flag after row column ≡ true
+  set_there = set row column ∙ or_left _ _ (and_from _ _ (eq-eqb row row refl) (eq-eqb column column refl))
+
+  -- what is flagged was flagged, or is the new flag
+  pub set_or : (P : ℕ → ℕ → Type 0) → P row column → ((i j : ℕ) → flag before i j ≡ true → P i j) → (i j : ℕ) → flag after i j ≡ true → P i j
+  set_or P new old i j e =
+      ⊎_elim
+      (λ a. let q = and_parts (eqb i row) _ a
+      in subst (λ b. P i b) (sym (eqb-true j column q.1)) (subst (λ b. P b column) (sym (eqb-true i row q.0)) new))
+      (λ a. old i j a)
+      (or_cases (eqb i row && eqb j column) _ (sym (set i j) ∙ e))
+
+  pub fewer_pairs : row < 8 → column < 8 → flag before row column ≡ false → pairs_left after < pairs_left before
+  fewer_pairs h k e =
+      let q : (8 * row + column) / 8 ≡ row = omega arith
+      in let r : (8 * row + column) % 8 ≡ column = omega arith
+      in let at = λ (t : List (List Bool)). let s : flag t ((8 * row + column) / 8) ((8 * row + column) % 8) ≡ flag t row column = rw (q, r) refl in s
+      in fewer_left (λ p. flag before (p / 8) (p % 8)) (λ p. flag after (p / 8) (p % 8)) (λ p. kept (p / 8) (p % 8)) 64 (8 * row + column) (omega arith)
+      (at before ∙ e) (at after ∙ set_there)
+
+-- P of each pair of places that is flagged, and of no other among the first n pairs, row by row
+pub record Told (P : ℕ → ℕ → Type 0) (n : ℕ) (table : List (List Bool)) : Type 0 where
+  pub sound : (i j : ℕ) → flag table i j ≡ true → P i j
+  pub complete : (i j : ℕ) → j < 8 → 8 * i + j < n → flag table i j ≡ false → P i j → ⊥
+
+module _ {P : ℕ → ℕ → Type 0} where
+  pub told_none : (table : List (List Bool)) → ((i j : ℕ) → flag table i j ≡ false) → Told P 0 table
+  told_none table none = record { sound = λ i j e. absurd (both_ways (flag table i j) (none i j) e); complete = λ i j h l. absurd (omega arith) }
+
+  -- the next pair, which is flagged where P holds of it
+  pub told_set : {row column : ℕ} {before after : List (List Bool)} → Told P (8 * row + column) before → column < 8 → IsSet before row column after → P row column → Told P (8 * row + (column + 1)) after
+  told_set {row = row} {column = column} {before = before} {after = after} t h set p = record {
+    sound = set_or before after row column set P p t.sound;
+    complete = λ i j k l e. ⊎_elim
+        (λ m. t.complete i j k m (⊎_elim (λ a. absurd (both_ways (flag after i j) e (kept before after row column set i j a))) (λ a. a) (cases_Bool (flag before i j))))
+        (λ m. let q : row ≡ i = omega arith in let r : column ≡ j = omega arith
+        in absurd (both_ways (flag after i j) e (subst (λ a. flag after a j ≡ true) q (subst (λ a. flag after row a ≡ true) r (set_there before after row column set)))))
+        (cases_lt (8 * i + j) (8 * row + column));
+  }
+
+  pub told_not : {row column : ℕ} {table : List (List Bool)} → Told P (8 * row + column) table → column < 8 → (P row column → ⊥) → Told P (8 * row + (column + 1)) table
+  told_not {row = row} {column = column} t h n = record {
+    sound = t.sound;
+    complete = λ i j k l e p. ⊎_elim
+        (λ m. t.complete i j k m e p)
+        (λ m. let q : i ≡ row = omega arith in let r : j ≡ column = omega arith in n (subst (λ a. P row a) r (subst (λ a. P a j) q p)))
+        (cases_lt (8 * i + j) (8 * row + column));
+  }
+
+  pub told_same : {m n : ℕ} {table : List (List Bool)} → Told P m table → m ≡ n → Told P n table
+  told_same {table = table} t e = subst (λ k. Told P k table) e t
+
+  pub told_all : {table : List (List Bool)} {n : ℕ} → Told P n table → 64 ≤ n → (i j : ℕ) → i < 8 → j < 8 → Decides (flag table i j) (P i j)
+  told_all t l i j h k = record { yes = t.sound i j; not = t.complete i j k (omega arith) }
+
+-- each of the first n places is flagged with itself, and none with another
+pub record Diagonal (n : ℕ) (same : List (List Bool)) : Type 0 where
+  pub equal : (i j : ℕ) → flag same i j ≡ true → i ≡ j
+  pub own : (i : ℕ) → i < n → flag same i i ≡ true
+
+pub diagonal_first : (same : List (List Bool)) → ((i j : ℕ) → flag same i j ≡ false) → Diagonal 0 same
+diagonal_first same none = record { equal = λ i j e. absurd (both_ways (flag same i j) (none i j) e); own = λ i h. absurd (omega arith) }
+
+pub diagonal_more : (before after : List (List Bool)) (n : ℕ) → IsSet before n n after → Diagonal n before → Diagonal (n + 1) after
+diagonal_more before after n set d = record {
+  equal = set_or before after n n set (λ i j. i ≡ j) refl d.equal;
+  own = λ i h. ⊎_elim (λ l. kept before after n n set i i (d.own i l)) (λ l. let q : n ≡ i = omega arith in subst (λ k. flag after k k ≡ true) q (set_there before after n n set)) (cases_lt i n);
+}
+
+module _ (down : List (List Bool)) where
+  -- what is flagged is forced, and each place is flagged with itself
+  pub record Flagged (same : List (List Bool)) : Type 0 where
+    pub sound : (i j : ℕ) → flag same i j ≡ true → Forced (flag down) i j
+    pub own : (i : ℕ) → i < 8 → flag same i i ≡ true
+
+  pub flagged_first : (same : List (List Bool)) (n : ℕ) → 8 ≤ n → Diagonal n same → Flagged same
+  flagged_first same n l d = record {
+    sound = λ i j e. subst (λ k. Forced (flag down) i k) (d.equal i j e) (Forced.self i);
+    own = λ i h. d.own i (omega arith);
+  }
+
+  forced_now_lem : (same : List (List Bool)) → Flagged same → (i j : ℕ) → ForcedNow (flag down) (flag same) i j → Forced (flag down) i j
+  forced_now_lem same f i j (inl m) = Forced.onward i m.0 j (f.sound i m.0 m.2.0) (f.sound m.0 j m.2.1)
+  forced_now_lem same f i j (inr m) =
+      Forced.above i j m.0 m.2.1.0 (f.sound m.0 m.2.1.0 m.2.1.2.1) (holds _ m.2.0) (holds _ m.2.1.2.0)
+
+  pub flagged_more : (before after : List (List Bool)) (i j : ℕ) → IsSet before i j after → Flagged before → ForcedNow (flag down) (flag before) i j → Flagged after
+  flagged_more before after i j set f now = record {
+    sound = set_or before after i j set (Forced (flag down)) (forced_now_lem before f i j now) f.sound;
+    own = λ k h. kept before after i j set k k (f.own k h);
+  }
 
   -- where nothing more is forced, all that is forced is flagged
-  module _ (same : List Bool) (f : Flagged same) (closed : (p : ℕ) → p < 64 → get_or same p false ≡ false → ForcedNow (flag_at down) (flag_at same) (p / 8) (p % 8) → ⊥) where
-    shut : (i j : ℕ) → i < 8 → j < 8 → ForcedNow (flag_at down) (flag_at same) i j → flag_at same i j ≡ true
-    shut i j h k now =
-        let q : (8 * i + j) / 8 ≡ i = omega arith
-        in let r : (8 * i + j) % 8 ≡ j = omega arith
-        in ⊎_elim (λ e. flag_made same i j h k e)
-        (λ e. absurd (closed (8 * i + j) (omega arith) e
-        (subst (λ b. ForcedNow (flag_at down) (flag_at same) ((8 * i + j) / 8) b) (sym r) (subst (λ a. ForcedNow (flag_at down) (flag_at same) a j) (sym q) now))))
-        (cases_Bool (get_or same (8 * i + j) false))
+  module _ (edges : Within down) (same : List (List Bool)) (bounds : Within same) (f : Flagged same) (closed : (i : ℕ) → i < 8 → (j : ℕ) → j < 8 → flag same i j ≡ false → ForcedNow (flag down) (flag same) i j → ⊥) where
+    shut : (i j : ℕ) → i < 8 → j < 8 → ForcedNow (flag down) (flag same) i j → flag same i j ≡ true
+    shut i j h k now = ⊎_elim (λ e. e) (λ e. absurd (closed i h j k e now)) (cases_Bool (flag same i j))
 
-    flags : {i j : ℕ} → Forced (flag_at down) i j → i < 8 → flag_at same i j ≡ true
+    flags : {i j : ℕ} → Forced (flag down) i j → i < 8 → flag same i j ≡ true
     flags (Forced.self i) h = f.own i h
     flags (Forced.above i j v w g a b) h =
-        let da = is_true (flag_at down i v) a
-        in let db = is_true (flag_at down j w) b
-        in let pa = flag_parts down i v da
-        in let pb = flag_parts down j w db
-        in shut i j h pb.0 (inr (v, pa.1, da, (w, pb.1, db, flags g pa.1)))
+        let da = is_true (flag down i v) a
+        in let db = is_true (flag down j w) b
+        in let pa = edges i v da
+        in let pb = edges j w db
+        in shut i j h pb.0 (inr (v, pa.1, (da, (w, pb.1, (db, flags g pa.1)))))
     flags (Forced.onward i j k g e) h =
         let a = flags g h
-        in let pa = flag_parts same i j a
+        in let pa = bounds i j a
         in let b = flags e pa.1
-        in shut i k h (flag_parts same j k b).1 (inl (j, pa.1, a, b))
+        in shut i k h (bounds j k b).1 (inl (j, pa.1, (a, b)))
 
-    pub flagged_all : (i j : ℕ) → i < 8 → j < 8 → Decides (flag_at same i j) (Forced (flag_at down) i j)
+    pub flagged_all : (i j : ℕ) → i < 8 → j < 8 → Decides (flag same i j) (Forced (flag down) i j)
     flagged_all i j h k = record {
       yes = f.sound i j;
-      not = λ e g. both_ways (flag_at same i j) e (flags g h);
+      not = λ e g. both_ways (flag same i j) e (flags g h);
     }

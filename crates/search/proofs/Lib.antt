@@ -10,8 +10,8 @@ pub mod Kept
 pub mod Left
 pub mod Lifting
 pub mod Listing
-pub mod NamesInOrder
 pub mod Odometer
+pub mod Ranges
 pub mod Rows
 pub mod Standing
 pub mod Steps

@@ -1,9 +1,5 @@
--- Tables over eight places, and which places are forced to one path by the steps between them.
-use Rattle.std.specs.Prelude.{◌≡◌, ℕ, ◌+◌, ◌*◌, ◌<◌, Bool, true, false, ◌&&◌, T, ◌⊎◌, List, nat_lt, slice_index_or}
-
--- the flag of a pair of places in a table of eight rows of eight
-unfoldable pub flag_at : List Bool → ℕ → ℕ → Bool
-flag_at table i j = nat_lt i 8 && (nat_lt j 8 && slice_index_or table (8 * i + j) false)
+-- Which of eight places are forced to one path by the steps between them.
+use Rattle.std.specs.Prelude.{◌≡◌, ℕ, ◌<◌, Bool, true, false, T, ◌⊎◌}
 
 -- two places are forced to one path: a place and itself, the places above two that are, and what follows from these
 pub data Forced (down : ℕ → ℕ → Bool) : ℕ → ℕ → Type 0 where
@@ -13,15 +9,15 @@ pub data Forced (down : ℕ → ℕ → Bool) : ℕ → ℕ → Type 0 where
 
 -- some place is the same as both
 abbrev pub Meets : (ℕ → ℕ → Bool) → ℕ → ℕ → Type 0
-Meets same i j = (v : ℕ) × (v < 8) × (same i v ≡ true) × (same v j ≡ true)
+Meets same i j = (v : ℕ) × (v < 8) × ((same i v ≡ true) × (same v j ≡ true))
 
 -- some place below j is the same as v
 abbrev pub BelowMeets : (ℕ → ℕ → Bool) → (ℕ → ℕ → Bool) → ℕ → ℕ → Type 0
-BelowMeets down same j v = (w : ℕ) × (w < 8) × (down j w ≡ true) × (same v w ≡ true)
+BelowMeets down same j v = (w : ℕ) × (w < 8) × ((down j w ≡ true) × (same v w ≡ true))
 
 -- places below i and j are the same
 abbrev pub SideBySide : (ℕ → ℕ → Bool) → (ℕ → ℕ → Bool) → ℕ → ℕ → Type 0
-SideBySide down same i j = (v : ℕ) × (v < 8) × (down i v ≡ true) × BelowMeets down same j v
+SideBySide down same i j = (v : ℕ) × (v < 8) × ((down i v ≡ true) × BelowMeets down same j v)
 
 -- what is the same forces two places to be the same
 abbrev pub ForcedNow : (ℕ → ℕ → Bool) → (ℕ → ℕ → Bool) → ℕ → ℕ → Type 0

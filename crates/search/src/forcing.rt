@@ -1,87 +1,78 @@
-//! Which places of a table are forced to one path by the steps between them.
-ghost use Rattle.std.specs.Prelude.{◌≡◌, ℕ, ◌/◌, ◌%◌, ◌<◌, true, false, ◌&&◌, MatchOption, ◌==◌, slice_index_or};
-ghost use Rattle.search.specs.Forcing.{flag_at, Meets, BelowMeets, SideBySide, ForcedNow, Forced, Decides};
+//! Which places are forced to one path by the steps between them.
+ghost use Rattle.std.specs.Prelude.{◌≡◌, ℕ, ◌<◌, true, false, MatchOption};
+ghost use Rattle.rules.specs.Flags.{flag};
+ghost use Rattle.search.specs.Forcing.{Meets, BelowMeets, SideBySide, ForcedNow, Forced, Decides};
 
-/// The flag of two places in a table.
-pub(crate) fn flag(table: &[bool; 64], row: usize, column: usize) -> bool
-    ensures { result ≡ flag_at table.now row column }
-{
-    row < 8 && column < 8 && table[8 * row + column]
+use rules::flags::Flags;
+
+// No `impl Model`: clauses see the two tables as relations, which are functions, and a model's value may hold none.
+/// From which places steps go down to which, and which places are the same: forced to one path by the steps.
+#[derive(Clone, Copy)]
+pub(crate) struct Steps {
+    pub(crate) down: Flags<8, 8>,
+    pub(crate) same: Flags<8, 8>,
 }
 
-/// Whether some place is the same as both.
-fn meets(same: &[bool; 64], one: usize, other: usize) -> bool
-    ensures { Decides result (Meets (flag_at same.now) one other) }
-{
-    for place in 0..8 {
-        if flag(same, one, place) && flag(same, place, other) {
-            return true;
+impl Steps {
+    // Tests of one shape, "some place with both": a common one over two closures would be longer than the `any` of each.
+    /// Whether some place is the same as both.
+    fn meets(&self, one: usize, other: usize) -> bool
+        ensures { Decides result (Meets (flag self.now.same.cells) one other) }
+    {
+        (0..8).any(|place| self.same.is_set(one, place) && self.same.is_set(place, other))
+    }
+
+    /// Whether some place below the first is the same as the second.
+    fn below_meets(&self, above: usize, other: usize) -> bool
+        ensures { Decides result (BelowMeets (flag self.now.down.cells) (flag self.now.same.cells) above other) }
+    {
+        (0..8).any(|place| self.down.is_set(above, place) && self.same.is_set(other, place))
+    }
+
+    /// Whether places below the two are the same.
+    fn side_by_side(&self, one: usize, other: usize) -> bool
+        ensures { Decides result (SideBySide (flag self.now.down.cells) (flag self.now.same.cells) one other) }
+    {
+        (0..8).any(|place| self.down.is_set(one, place) && self.below_meets(other, place))
+    }
+
+    /// Whether what is the same forces the two to be the same.
+    fn forced_now(&self, one: usize, other: usize) -> bool
+        ensures { Decides result (ForcedNow (flag self.now.down.cells) (flag self.now.same.cells) one other) }
+    {
+        self.meets(one, other) || self.side_by_side(one, other)
+    }
+
+    /// The first place that is forced to be the same as this one and not yet flagged.
+    fn next_with(&self, one: usize) -> Option<usize>
+        ensures { MatchOption result ((j : ℕ) → j < 8 → flag self.now.same.cells one j ≡ false → ForcedNow (flag self.now.down.cells) (flag self.now.same.cells) one j → ⊥) (λ j. (j < 8) × ((flag self.now.same.cells one j ≡ false) × ForcedNow (flag self.now.down.cells) (flag self.now.same.cells) one j)) }
+    {
+        (0..8).find(|other| !self.same.is_set(one, *other) && self.forced_now(one, *other))
+    }
+
+    /// The first two places that are forced to be the same and not yet flagged.
+    fn next_forced(&self) -> Option<(usize, usize)>
+        ensures { MatchOption result ((i : ℕ) → i < 8 → (j : ℕ) → j < 8 → flag self.now.same.cells i j ≡ false → ForcedNow (flag self.now.down.cells) (flag self.now.same.cells) i j → ⊥) (λ p. (p.0 < 8) × (p.1 < 8) × (flag self.now.same.cells p.0 p.1 ≡ false) × ForcedNow (flag self.now.down.cells) (flag self.now.same.cells) p.0 p.1) }
+    {
+        (0..8).find_map(|one| self.next_with(one).map(|other| (one, other)))
+    }
+
+    /// The places that are forced to one path by the steps down from place to place.
+    pub(crate) fn new(down: Flags<8, 8>) -> Self
+        ensures down { result.down ≡ down }
+        ensures same { (i j : ℕ) → i < 8 → j < 8 → Decides (flag result.same.cells i j) (Forced (flag result.down.cells) i j) }
+    {
+        let mut steps = Steps {
+            down,
+            same: Flags::new(),
+        };
+        // Flag by flag, as a table of flags is written.
+        for place in 0..8 {
+            steps.same.set(place, place);
         }
-    }
-    false
-}
-
-/// Whether some place below the first is the same as the second.
-fn below_meets(down: &[bool; 64], same: &[bool; 64], above: usize, other: usize) -> bool
-    ensures { Decides result (BelowMeets (flag_at down.now) (flag_at same.now) above other) }
-{
-    for place in 0..8 {
-        if flag(down, above, place) && flag(same, other, place) {
-            return true;
+        while let Some((one, other)) = steps.next_forced() {
+            steps.same.set(one, other);
         }
+        steps
     }
-    false
-}
-
-/// Whether places below the two are the same.
-fn side_by_side(down: &[bool; 64], same: &[bool; 64], one: usize, other: usize) -> bool
-    ensures { Decides result (SideBySide (flag_at down.now) (flag_at same.now) one other) }
-{
-    for place in 0..8 {
-        if flag(down, one, place) && below_meets(down, same, other, place) {
-            return true;
-        }
-    }
-    false
-}
-
-/// Whether what is the same forces the two to be the same.
-fn forced_now(down: &[bool; 64], same: &[bool; 64], one: usize, other: usize) -> bool
-    ensures { Decides result (ForcedNow (flag_at down.now) (flag_at same.now) one other) }
-{
-    meets(same, one, other) || side_by_side(down, same, one, other)
-}
-
-/// The first pair that is forced to be the same and not yet flagged.
-fn next_forced(down: &[bool; 64], same: &[bool; 64]) -> Option<usize>
-    ensures { MatchOption result ((p : ℕ) → p < 64 → slice_index_or same.now p false ≡ false → ForcedNow (flag_at down.now) (flag_at same.now) (p / 8) (p % 8) → ⊥) (λ p. (p < 64) × (slice_index_or same.now p false ≡ false) × ForcedNow (flag_at down.now) (flag_at same.now) (p / 8) (p % 8)) }
-{
-    for pair in 0..64 {
-        if !same[pair] && forced_now(down, same, pair / 8, pair % 8) {
-            return Some(pair);
-        }
-    }
-    None
-}
-
-/// The table in which each place is the same as itself, and as no other.
-fn diagonal() -> [bool; 64]
-    ensures { (p : ℕ) → p < 64 → slice_index_or result p false ≡ (p / 8 == p % 8) }
-{
-    let mut same = [false; 64];
-    for pair in 0..64 {
-        same[pair] = pair / 8 == pair % 8;
-    }
-    same
-}
-
-/// Which pairs of places are forced to one path, by a table of the steps down from place to place.
-pub(crate) fn same_table(down: &[bool; 64]) -> [bool; 64]
-    ensures { (i j : ℕ) → i < 8 → j < 8 → Decides (flag_at result i j) (Forced (flag_at down.now) i j) }
-{
-    let mut same = diagonal();
-    while let Some(pair) = next_forced(down, &same) {
-        same[pair] = true;
-    }
-    same
 }

@@ -2,14 +2,15 @@
 //! unravelled model.
 #![tactic(auto)]
 
-pub mod agreeing;
+mod agreeing;
 pub mod filter;
 pub mod finder;
-pub mod forcing;
-pub mod grounding;
-pub mod naming;
-pub mod places;
-pub mod searching;
-pub mod stepping;
-pub mod testing;
+mod forcing;
+mod grounding;
+mod matcher;
+mod naming;
+mod places;
+mod searching;
+mod stepping;
+mod testing;
 pub mod theorems;

@@ -10,6 +10,7 @@ use Rattle.league.specs.Facts.{same, plus, count_of, within}
 use Rattle.league.proofs.Counts.{count-gain, count_none, same_eq}
 use Rattle.store.specs.Holding.{gain, opened}
 use Rattle.store.specs.Bits.{place_of, with_bit, set_bit, cleared, size_of, bit_limit, names_over, marked, held_bits}
+use Rattle.store.proofs.Admitted.{range_within}
 use Rattle.store.proofs.BitsSet.{set_here, set_there}
 use Rattle.store.proofs.BitsPlaced.{place_same, place_below}
 
@@ -80,3 +81,6 @@ over_few xs asked = grind (arith, nat_tests)
 
 pub over_room : (xs : List ℕ) (asked : ℕ) → size_of (names_over xs asked) ≤ length xs
 over_room xs asked = grind (arith, nat_tests)
+
+-- what tells that the byte of a fact's bit is there
+pub ruleset placed = (arith, place_byte, range_within)

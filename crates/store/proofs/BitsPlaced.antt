@@ -1,6 +1,6 @@
 -- The places of facts: two facts have two places, and each place is within the bytes of the store.
-use Rattle.std.proofs.Common.{◌≡◌, ℕ, ◌+◌, ◌*◌, ◌/◌, ◌%◌, ◌<◌, true, ◌&&◌, ltb, sym, ap, ◌∙◌, arith}
-use Rattle.std.proofs.lemmas.Nat.{mul-add-lt, div-mul-add, mod-mul-add}
+use Rattle.std.proofs.Common.{◌≡◌, ℕ, ◌+◌, ◌*◌, ◌/◌, ◌%◌, ◌^◌, ◌<◌, ◌≤◌, true, ◌&&◌, ltb, sym, ap, ◌∙◌, arith}
+use Rattle.std.proofs.lemmas.Nat.{mul-add-lt, mul-le, div-mul-add, mod-mul-add}
 use Rattle.std.proofs.lemmas.Bool.{and_parts, and_from, ltb-true, eq-eqb}
 use Rattle.league.specs.declared.facts.Fact.{Fact}
 use Rattle.league.specs.declared.facts.Fact.TheVariants.{Is, Joins}
@@ -73,3 +73,7 @@ place_below n (Is k a) w = let p = kind_range n k a w in omega arith
 place_below n (Joins l a b) w =
     let p = link_range n l a b w in
     omega (arith, mul-add-lt a.0 n b.0 n p.from p.to)
+
+-- so many places have a number of 32 bits
+pub limit_fits : (n : ℕ) → n ≤ 1024 → 64 * n + 32 * (n * n) < 2 ^ 32
+limit_fits n l = omega (arith, mul-le n n 1024 1024 l l)

@@ -1,13 +1,13 @@
 //! A store with a bit for each possible fact: it takes more memory, which opening clears, and looks up and
 //! enters a fact at one place.
-ghost use Rattle.std.specs.Prelude.{◌≡◌, ◌/◌, ◌<◌, ◌≤◌, length};
+ghost use Rattle.std.specs.Prelude.{◌≡◌, ◌/◌, ◌<◌, ◌≤◌, false, length, IsTrue};
 ghost use Rattle.store.specs.Bits.{place_of, is_set, with_bit, cleared, size_of, bit_limit, names_over, held_bits};
-ghost use Rattle.store.specs.Holding.{opened};
+ghost use Rattle.league.specs.Facts.{within};
+ghost use Rattle.store.specs.Holding.{opened, gain as gained, count as counted};
 ghost use Rattle.store.specs.Marked.{held_bits_sound};
 
 use crate::bits::BitStore;
-use crate::contract::{Store, admit, check_range};
-use crate::record_store::usable_names;
+use crate::contract::{Store, admit, check_range, usable_names};
 use league::facts::{Entry, Fact};
 use league::faults::StoreFault;
 
@@ -16,10 +16,11 @@ fn place(names: u16, fact: Fact) -> usize
     ensures { result ≡ place_of names fact }
 {
     match fact {
-        Fact::Is(kind, name) => 64 * name.0 as usize + kind.0 as usize,
+        Fact::Is(kind, name) => 64 * usize::from(name.0) + usize::from(kind.0),
         Fact::Joins(link, from, to) => {
-            let pair = from.0 as usize * names as usize + to.0 as usize;
-            64 * names as usize + (32 * pair + link.0 as usize)
+            let n = usize::from(names);
+            let pair = usize::from(from.0) * n + usize::from(to.0);
+            64 * n + (32 * pair + usize::from(link.0))
         }
     }
 }
@@ -40,24 +41,15 @@ fn with_bit(byte: u8, bit: usize) -> u8
     byte | 1 << bit
 }
 
-/// Writes 0 to the first bytes, so many of them.
-fn clear(bytes: &mut [u8], len: usize)
-    requires { len ≤ length bytes.old }
-    ensures { bytes.new ≡ cleared len bytes.old }
-{
-    for i in 0..len {
-        bytes[i] = 0;
-    }
-}
-
 /// How many bytes the bits over so many names take.
 fn size(names: u16) -> usize
     ensures { result ≡ size_of names }
 {
-    let n = names as usize;
+    let n = usize::from(names);
     8 * n + 4 * (n * n)
 }
 
+// 0 and no `Option`, as the number of names that any store can have.
 /// The number of names of a store over these bytes that is asked for so many.
 fn names_over(bytes: &[u8], names: u16) -> u16
     ensures { result ≡ names_over bytes.now names }
@@ -76,12 +68,25 @@ impl<'a> BitStore<'a> {
         ensures bytes { result.bytes.now ≡ cleared (size_of (names_over bytes.old names)) bytes.old }
     {
         let usable = names_over(bytes, names);
-        clear(bytes, size(usable));
+        bytes[..size(usable)].fill(0);
         BitStore {
             names: usable,
             count: 0,
             bytes,
         }
+    }
+
+    /// Gains a fact that it does not hold, where there is room for one more.
+    #[tactic(auto, using(crate::proofs::BitsHeld::placed))]
+    fn gain(&mut self, fact: Fact)
+        requires range { IsTrue (within self.old.names fact) }
+        requires fresh { (held_bits self.old.names self.old.bytes.now).facts fact ≡ false }
+        requires room { counted (held_bits self.old.names self.old.bytes.now) < (held_bits self.old.names self.old.bytes.now).limit }
+        ensures { held_bits self.new.names self.new.bytes.now ≡ gained (held_bits self.old.names self.old.bytes.now) fact }
+    {
+        let bit = place(self.names, fact);
+        self.bytes[bit / 8] = with_bit(self.bytes[bit / 8], bit % 8);
+        self.count += 1;
     }
 }
 
@@ -94,8 +99,9 @@ impl<'a> Store for BitStore<'a> {
         self.names
     }
 
+    #[tactic(auto, using(crate::proofs::BitsPlaced::limit_fits))]
     fn limit(&self) -> u32 {
-        let n = self.names as u32;
+        let n = u32::from(self.names);
         64 * n + 32 * (n * n)
     }
 
@@ -103,21 +109,20 @@ impl<'a> Store for BitStore<'a> {
         self.count
     }
 
+    #[tactic(auto, using(crate::proofs::BitsHeld::placed))]
     fn has(&self, fact: Fact) -> bool {
-        match check_range(self.names, fact) {
-            Ok(()) => is_set(self.bytes, place(self.names, fact)),
-            Err(_) => false,
-        }
+        check_range(self.names, fact).is_ok() && is_set(self.bytes, place(self.names, fact))
     }
 
+    // As in the other store: a store shows its entries and nothing else, so what it gains is no method of the trait, and
+    // the check does not cover a function over a trait of the crate's own that leads back to `has`.
     fn enter(&mut self, fact: Fact) -> Result<Entry, StoreFault> {
+        // `*self`: a lent store is a store too, and `self` is one.
         let known = (*self).has(fact);
         let room = (*self).count() < (*self).limit();
-        let entry = admit(self.names, fact, known, room)?;
-        if let Entry::New = entry {
-            let bit = place(self.names, fact);
-            self.bytes[bit / 8] = with_bit(self.bytes[bit / 8], bit % 8);
-            self.count += 1;
+        let entry = admit((*self).names(), fact, known, room)?;
+        if entry == Entry::New {
+            self.gain(fact);
         }
         Ok(entry)
     }

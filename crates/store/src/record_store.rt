@@ -1,40 +1,14 @@
 //! A store over lent records: small, and quick to open; looking for a fact goes through the records.
-ghost use Rattle.std.specs.Prelude.{◌≡◌, ◌≤◌, length};
-ghost use Rattle.league.specs.Facts.{same as same_fact};
-ghost use Rattle.store.specs.Holding.{names_of, opened};
-ghost use Rattle.store.specs.Records.{held, listed, record_limit};
+ghost use Rattle.std.specs.Prelude.{◌≡◌, ◌<◌, ◌≤◌, false, length, IsTrue};
+ghost use Rattle.league.specs.Facts.{within};
+ghost use Rattle.store.specs.Holding.{names_of, opened, gain as gained, count as counted};
+ghost use Rattle.store.specs.Records.{held, record_limit};
 ghost use Rattle.store.specs.Listed.{held_sound};
 
-use crate::contract::{Store, admit};
+use crate::contract::{Store, admit, usable_names};
 use crate::records::RecordStore;
 use league::facts::{Entry, Fact};
 use league::faults::StoreFault;
-
-/// Whether two facts are one.
-fn is_same(a: Fact, b: Fact) -> bool
-    ensures { result ≡ same_fact a b }
-{
-    a == b
-}
-
-/// Whether a fact is among some records.
-fn is_listed(records: &[Fact], fact: Fact) -> bool
-    ensures { result ≡ listed records.now fact }
-{
-    for record in records {
-        if is_same(*record, fact) {
-            return true;
-        }
-    }
-    false
-}
-
-/// The number of names of a store that is asked for so many: none where that is 0 or above 1,024.
-pub(crate) fn usable_names(names: u16) -> u16
-    ensures { result ≡ names_of names }
-{
-    if names > 1024 { 0 } else { names }
-}
 
 impl<'a> RecordStore<'a> {
     /// An empty store over lent records, which stay as they are until facts are entered.
@@ -47,6 +21,17 @@ impl<'a> RecordStore<'a> {
             len: 0,
             records,
         }
+    }
+
+    /// Gains a fact that it does not hold, where there is room for one more.
+    fn gain(&mut self, fact: Fact)
+        requires range { IsTrue (within self.old.names fact) }
+        requires fresh { (held self.old.names self.old.records.now self.old.len).facts fact ≡ false }
+        requires room { counted (held self.old.names self.old.records.now self.old.len) < (held self.old.names self.old.records.now self.old.len).limit }
+        ensures { held self.new.names self.new.records.now self.new.len ≡ gained (held self.old.names self.old.records.now self.old.len) fact }
+    {
+        self.records[self.len] = fact;
+        self.len += 1;
     }
 }
 
@@ -63,21 +48,25 @@ impl<'a> Store for RecordStore<'a> {
         self.records.len().min(65535) as u32
     }
 
+    #[tactic(auto, using(crate::specs::Listed::count_held))]
     fn count(&self) -> u32 {
         self.len as u32
     }
 
+    #[tactic(auto, using(crate::proofs::ListedAny::listed_any))]
     fn has(&self, fact: Fact) -> bool {
-        is_listed(&self.records[0..self.len], fact)
+        self.records[..self.len].contains(&fact)
     }
 
+    // As in the other store: a store shows its entries and nothing else, so what it gains is no method of the trait, and
+    // the check does not cover a function over a trait of the crate's own that leads back to `has`.
     fn enter(&mut self, fact: Fact) -> Result<Entry, StoreFault> {
+        // `*self`: a lent store is a store too, and `self` is one.
         let known = (*self).has(fact);
         let room = (*self).count() < (*self).limit();
-        let entry = admit(self.names, fact, known, room)?;
-        if let Entry::New = entry {
-            self.records[self.len] = fact;
-            self.len += 1;
+        let entry = admit((*self).names(), fact, known, room)?;
+        if entry == Entry::New {
+            self.gain(fact);
         }
         Ok(entry)
     }

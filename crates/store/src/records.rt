@@ -8,6 +8,7 @@ use league::facts::Fact;
 #[derive(Drop)]
 pub struct RecordStore<'a> {
     pub(crate) names: u16,
+    // The records are the caller's memory, of any number, and a store allocates nothing: so how many are used stands beside them.
     pub(crate) len: usize,
     pub(crate) records: &'a mut [Fact],
     ghost few: { names ≤ 1024 },

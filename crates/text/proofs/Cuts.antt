@@ -1,9 +1,12 @@
 -- Cutting bytes at the first separator.
-use Rattle.std.proofs.Common.{◌≡◌, ℕ, suc, ◌+◌, ◌-◌, ◌<◌, ◌≤◌, true, false, cond, eqb, List, [], ◌∷◌, length, get_or, take, drop, refl, ◌∙◌, ⊎_elim, add-one, arith}
-use Rattle.std.proofs.lemmas.List.{at_drop_more, take_rest}
-use Rattle.std.proofs.lemmas.Bool.{cases_Bool, cases_lt, eq-eqb, ne_eqb}
-use Rattle.text.specs.Lines.{Bytes, cut, fields, lines, first_at}
-use Rattle.text.specs.Tokens.{first}
+use Rattle.std.proofs.Common.{◌≡◌, ℕ, suc, Bor, Option, Some, None, MatchOption, position, unwrap_or, ◌+◌, ◌-◌, ◌<◌, ◌≤◌, true, false, cond, not, eqb, ltb, List, [], ◌∷◌, length, take, drop, sym, refl, ap, ◌∙◌, ⊎_elim, add-one, arith}
+use Rattle.std.specs.List.{position_or_len}
+use Rattle.std.proofs.lemmas.List.{take_rest}
+use Rattle.std.proofs.lemmas.Bool.Decides.{nat_tests}
+use Rattle.std.proofs.lemmas.Bool.{cases_Bool, cases_lt}
+use Rattle.text.specs.Lines.{Bytes, onto, cut, fields, first_at}
+use Rattle.text.specs.Pieces.{Splits}
+use Rattle.text.specs.Tokens.{left}
 
 pub first_le : (byte : ℕ) (s : Bytes) → first_at byte s ≤ length s
 first_le byte [] = omega arith
@@ -39,18 +42,13 @@ fields_last (b ∷ bs) l =
     let k = not_first 32 b bs l in
     rw (k.0, fields_last bs k.1) refl
 
--- and, where there are bytes, one line
-pub lines_last : (s : Bytes) → 0 < length s → length s ≤ first_at 10 s → lines s ≡ s ∷ []
-lines_last [] z l = absurd (omega arith)
-lines_last (b ∷ []) z l = rw (not_first 10 b [] l).0 refl
-lines_last (b ∷ (a ∷ rest)) z l =
-    let k = not_first 10 b (a ∷ rest) l in
-    rw (k.0, lines_last (a ∷ rest) (omega arith) k.1) refl
-
--- one step of a search for a byte, and its end
-pub first_step : (byte : ℕ) (s : Bytes) (i : ℕ) → i < length s
-    → first_at byte (drop i s) ≡ cond (eqb (get_or s i 0) byte) 0 (suc (first_at byte (drop (i + 1) s)))
-first_step byte s i l = at_drop_more (first_at byte) s i 0 l
+-- and, where there are bytes, one piece that a separator ends
+pub pieces_last : (byte : ℕ) (s : Bytes) → 0 < length s → length s ≤ first_at byte s → cut [] byte s ≡ s ∷ []
+pieces_last byte [] z l = absurd (omega arith)
+pieces_last byte (b ∷ []) z l = rw (not_first byte b [] l).0 refl
+pieces_last byte (b ∷ (a ∷ rest)) z l =
+    let k = not_first byte b (a ∷ rest) l in
+    rw (k.0, pieces_last byte (a ∷ rest) (omega arith) k.1) refl
 
 -- a line has a field
 pub fields_some : (s : Bytes) → (w : Bytes) × (ws : List Bytes) × (fields s ≡ w ∷ ws)
@@ -60,27 +58,62 @@ fields_some s =
     (λ l. (s, [], fields_last s l))
     (cases_lt (first_at 32 s) (length s))
 
--- the invariant of a search for a byte: found at i, not found at i, and the end
-pub search_found : (byte : ℕ) (s : Bytes) (i : ℕ) → i < length s → first_at byte s ≡ i + first_at byte (drop i s) → get_or s i 0 ≡ byte → i ≡ first_at byte s
-search_found byte s i l h e =
-    let k : first_at byte (drop i s) ≡ 0 = first_step byte s i l ∙ rw (eq-eqb (get_or s i 0) byte e) refl in
-    omega arith
+-- the search of the library looks for the same place
+position_is : (byte : ℕ) (s : Bytes) → position_or_len (λ b. eqb b byte) s ≡ first_at byte s
+position_is byte [] = refl
+position_is byte (b ∷ bs) =
+    elim (eqb b byte) as (λ t. cond (not t) (1 + position_or_len (λ c. eqb c byte) bs) 0 ≡ cond t 0 (suc (first_at byte bs)))
+    [ true ↦ refl | false ↦ omega (arith, position_is byte bs) ]
 
-pub search_more : (byte : ℕ) (s : Bytes) (i : ℕ) → i < length s → first_at byte s ≡ i + first_at byte (drop i s) → (get_or s i 0 ≡ byte → ⊥)
-    → first_at byte s ≡ (i + 1) + first_at byte (drop (i + 1) s)
-search_more byte s i l h e =
-    let k : first_at byte (drop i s) ≡ suc (first_at byte (drop (i + 1) s)) = first_step byte s i l ∙ rw (ne_eqb (get_or s i 0) byte e) refl in
-    omega arith
+-- where the first such byte stands, if there is one
+abbrev Finds : ℕ → Bytes → Option ℕ → Type 0
+Finds byte s r = MatchOption r (length s ≤ first_at byte s) (λ i. (i ≡ first_at byte s) × (first_at byte s < length s))
 
--- a field that a space ends at once is empty
-pub fields_empty : (s : Bytes) → first_at 32 s ≡ 0 → first (fields s) ≡ []
-fields_empty [] e = refl
-fields_empty (b ∷ bs) e = ⊎_elim (λ t. rw t refl) (λ t. let k : suc (first_at 32 bs) ≡ 0 = rw t at e in absurd (omega arith)) (cases_Bool (eqb b 32))
+finds : (byte : ℕ) (s : Bytes) (o : Option ℕ) → o ≡ position (λ b. eqb b byte) s → Finds byte s o
+finds byte s o e = ⊎_elim found none (cases_lt (first_at byte s) (length s))
+  where
+    found : first_at byte s < length s → Finds byte s o
+    found l =
+        let t : ltb (first_at byte s) (length s) ≡ true = grind (arith, nat_tests) in
+        rw (e, position_is byte s, t) (refl, l)
 
--- the same, with the parts as the code takes them: `&s[0..p]` and `&s[p + 1..]`
-pub cut_parts : (last : List Bytes) (byte : ℕ) (s : Bytes) (p : ℕ) → p ≡ first_at byte s → p < length s
-    → cut last byte s ≡ take (p - 0) s ∷ cut last byte (take (length s - (p + 1)) (drop (p + 1) s))
-cut_parts last byte s p e l =
-    let z : p - 0 ≡ p = omega arith in
-    let h = cut_found last byte s (omega arith) in
-    h ∙ rw (z, take_rest s (p + 1), e) refl
+    none : length s ≤ first_at byte s → Finds byte s o
+    none l =
+        let t : ltb (first_at byte s) (length s) ≡ false = grind (arith, nat_tests) in
+        rw (e, position_is byte s, t) l
+
+pub found_or_len : (byte : ℕ) (s : Bytes) (o : Option ℕ) → o ≡ position (λ b. eqb b byte) s → unwrap_or o (length s) ≡ first_at byte s
+found_or_len byte s None e = omega (arith, first_le byte s, finds byte s None e)
+found_or_len byte s (Some i) e = (finds byte s (Some i) e).0
+
+-- what a search finds, as the code cuts there: `&s[..i]` and `&s[i + 1..]`
+pub found_at : (byte : ℕ) (s : Bytes) (i : ℕ) → Some i ≡ position (λ b. eqb b byte) s
+    → (first_at byte s < length s) × (take i s ≡ take (first_at byte s) s) × (take (length s - (i + 1)) (drop (i + 1) s) ≡ drop (first_at byte s + 1) s)
+found_at byte s i e =
+    let p = finds byte s (Some i) e in
+    (p.1, rw p.0 refl, rw (take_rest s (i + 1), p.0) refl)
+
+pub not_found : (byte : ℕ) (s : Bytes) → None ≡ position (λ b. eqb b byte) s → length s ≤ first_at byte s
+not_found byte s e = finds byte s None e
+
+-- the first field of a line, and the fields after it
+pub fields_split : (s : Bytes) (before : Bor Bytes) (after : Option (Bor Bytes)) → Splits 32 s (before, after) → fields s ≡ before.now ∷ left after
+fields_split s before None h = fields_last s h.0 ∙ ap (λ w. w ∷ []) (sym h.1)
+fields_split s before (Some after) h = cut_found ([] ∷ []) 32 s h.0 ∙ (λ i. sym h.1 i ∷ fields (sym h.2 i))
+
+-- the first piece, and those after it
+pub pieces_split : (byte : ℕ) (s : Bytes) (before : Bor Bytes) (after : Option (Bor Bytes)) (none : Bor Bytes) → 0 < length s → none.now ≡ []
+    → Splits byte s (before, after) → cut [] byte s ≡ before.now ∷ cut [] byte (unwrap_or after none).now
+pieces_split byte s before None none z e h = pieces_last byte s z h.0 ∙ rw (e, h.1) refl
+pieces_split byte s before (Some after) none z e h = cut_found [] byte s h.0 ∙ (λ i. sym h.1 i ∷ cut [] byte (sym h.2 i))
+
+length-onto : (b : ℕ) (ps : List Bytes) → length (onto b ps) ≤ length ps + 1
+length-onto b [] = omega arith
+length-onto b (p ∷ ps) = omega arith
+
+-- there are no more pieces than bytes
+pub pieces_few : (byte : ℕ) (s : Bytes) → length (cut [] byte s) ≤ length s
+pieces_few byte [] = omega arith
+pieces_few byte (b ∷ bs) =
+    elim (eqb b byte) as (λ t. length (cond t ([] ∷ cut [] byte bs) (onto b (cut [] byte bs))) ≤ suc (length bs))
+    [ true ↦ omega (arith, pieces_few byte bs) | false ↦ omega (arith, pieces_few byte bs, length-onto b (cut [] byte bs)) ]

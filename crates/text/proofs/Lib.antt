@@ -1,6 +1,5 @@
 pub mod Cuts
 pub mod Digits
-pub mod Numbers
 pub mod Pages
 pub mod Spaces
 pub mod Spelling

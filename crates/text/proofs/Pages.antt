@@ -1,39 +1,22 @@
 -- Writing lines to a page.
-use Rattle.std.proofs.Common.{◌≡◌, ℕ, ◌+◌, ◌-◌, ◌<◌, ◌≤◌, true, false, cond, ltb, leb, List, [], ◌∷◌, ◌++◌, length, get_or, take, drop, set, Ok, Err, Result, sym, refl, ap, ◌∙◌, ⊎_elim, append_assoc, zero-add, arith, length-append, length-drop}
-use Rattle.std.proofs.lemmas.List.{take_more, drop_more, set_at, length-take-le, take-append-drop, length_push, take_at, drop_at, drop-drop}
+use Rattle.std.proofs.Common.{◌≡◌, ℕ, ◌+◌, ◌-◌, ◌<◌, ◌≤◌, true, false, cond, ltb, leb, List, [], ◌∷◌, ◌++◌, length, take, drop, Some, None, Ok, Err, Result, sym, refl, ap, ◌∙◌, ⊎_elim, append_assoc, zero-add, arith, length-append, length-drop}
+use Rattle.std.proofs.lemmas.List.{length-take-le, take-append-drop, take_at, drop_at, drop-drop}
 use Rattle.std.proofs.lemmas.Bool.{cases_lt}
 use Rattle.std.proofs.lemmas.Bool.Decides.{nat_tests}
 use Rattle.text.specs.Lines.{Bytes}
 use Rattle.league.specs.declared.faults.BookFault.{BookFault}
 use Rattle.league.specs.declared.faults.BookFault.TheVariants as book
 use Rattle.text.specs.Pages.{Page, page, pasted, put, put_all, kept, together, result, fresh}
-use Rattle.store.specs.Holding.{Holding}
-use Rattle.rules.specs.RuleSet.{RuleSet}
-use Rattle.certain.specs.Reference.{accepted}
+use Rattle.certain.specs.Reference.{Accepted}
 use Rattle.text.specs.Runs.{Filled, outputs}
 
 pub pasted_none : (b : Bytes) (w : ℕ) (s : Bytes) → pasted b w (take 0 s) ≡ b
 pasted_none b w s = let z : w + 0 ≡ w = omega arith in rw z (take-append-drop w b)
 
--- one byte more of a line
-pub pasted_more : (b : Bytes) (w : ℕ) (s : Bytes) (i : ℕ) → w + i < length b → i < length s
-    → set (pasted b w (take i s)) (w + i) (get_or s i 0) ≡ pasted b w (take (i + 1) s)
-pasted_more b w s i l k =
-    let n : length (take i s) ≡ i = length-take-le i s (omega arith) in
-    let m : length (take w b) ≡ w = length-take-le w b (omega arith) in
-    let p : length (take w b ++ take i s) ≡ w + i = length-append (take w b) (take i s) ∙ rw (m, n) refl in
-    let o : length (take i s ++ (get_or s i 0 ∷ [])) ≡ i + 1 = length_push (take i s) (get_or s i 0) ∙ rw n refl in
-    let j : w + (i + 1) ≡ w + i + 1 = omega arith in
-    let left : pasted b w (take i s) ≡ (take w b ++ take i s) ++ (get_or b (w + i) 0 ∷ drop (w + i + 1) b) =
-    rw (n, drop_more b (w + i) 0 l) (sym (append_assoc (take w b) (take i s) (get_or b (w + i) 0 ∷ drop (w + i + 1) b))) in
-    let right : pasted b w (take (i + 1) s) ≡ (take w b ++ take i s) ++ (get_or s i 0 ∷ drop (w + i + 1) b) =
-    rw (take_more s i 0 k, o, j) (simp append_assoc) in
-    rw left (set_at (take w b ++ take i s) (get_or b (w + i) 0) (drop (w + i + 1) b) (get_or s i 0) (w + i) p ∙ sym right)
-
 -- once a line was left out, nothing more is written
-pub all_full : (b : Bytes) (w : ℕ) (outs : List Bytes) → put_all (page b w true) outs ≡ page b w true
-all_full b w [] = refl
-all_full b w (l ∷ ls) = all_full b w ls
+pub all_full : (b : Bytes) (outs : List Bytes) → put_all (page b None) outs ≡ page b None
+all_full b [] = refl
+all_full b (l ∷ ls) = all_full b ls
 
 -- one line after another
 pub pasted-pasted : (b : Bytes) (w : ℕ) (l k : Bytes) → w ≤ length b → pasted (pasted b w l) (w + length l) k ≡ pasted b w (l ++ k)
@@ -58,25 +41,25 @@ pub record Stands (b : Bytes) (w : ℕ) (outs : List Bytes) (p : Page) : Type 0 
   pub bytes : p.bytes ≡ pasted b w (together (kept (length b - w) outs))
   pub reply : result p ≡ cond (leb (w + length (together outs)) (length b)) (Ok (w + length (together outs))) (Err book.Page)
 
-pub all_stands : (b : Bytes) (w : ℕ) (outs : List Bytes) → w ≤ length b → Stands b w outs (put_all (page b w false) outs)
+pub all_stands : (b : Bytes) (w : ℕ) (outs : List Bytes) → w ≤ length b → Stands b w outs (put_all (page b (Some w)) outs)
 all_stands b w [] h =
     let z : w + 0 ≡ w = omega arith in
     let t : leb w (length b) ≡ true = grind (arith, nat_tests) in
     record { bytes = sym (pasted_none b w []); reply = rw (z, t) refl }
 all_stands b w (l ∷ ls) h = ⊎_elim (λ k. left_out k) (λ k. fits k (all_stands (pasted b w l) (w + length l) ls)) (cases_lt (length b - w) (length l))
   where
-    left_out : length b - w < length l → Stands b w (l ∷ ls) (put_all (page b w false) (l ∷ ls))
+    left_out : length b - w < length l → Stands b w (l ∷ ls) (put_all (page b (Some w)) (l ∷ ls))
     left_out k =
         let t : ltb (length b - w) (length l) ≡ true = grind (arith, nat_tests) in
         let u : leb (length l) (length b - w) ≡ false = grind (arith, nat_tests) in
         let a = length-append l (together ls) in
         let v : leb (w + length (l ++ together ls)) (length b) ≡ false = grind (arith, nat_tests) in
-        let out : put (page b w false) l ≡ page b w true = rw t refl in
-        let end : put_all (put (page b w false) l) ls ≡ page b w true = ap (λ (q : Page). put_all q ls) out ∙ all_full b w ls in
+        let out : put (page b (Some w)) l ≡ page b None = rw t refl in
+        let end : put_all (put (page b (Some w)) l) ls ≡ page b None = ap (λ (q : Page). put_all q ls) out ∙ all_full b ls in
         record { bytes = ap (λ (q : Page). q.bytes) end ∙ rw u (sym (pasted_none b w [])); reply = ap result end ∙ rw v refl }
 
-    fits : length l ≤ length b - w → (w + length l ≤ length (pasted b w l) → Stands (pasted b w l) (w + length l) ls (put_all (page (pasted b w l) (w + length l) false) ls))
-        → Stands b w (l ∷ ls) (put_all (page b w false) (l ∷ ls))
+    fits : length l ≤ length b - w → (w + length l ≤ length (pasted b w l) → Stands (pasted b w l) (w + length l) ls (put_all (page (pasted b w l) (Some (w + length l))) ls))
+        → Stands b w (l ∷ ls) (put_all (page b (Some w)) (l ∷ ls))
     fits k again =
         let t : ltb (length b - w) (length l) ≡ false = grind (arith, nat_tests) in
         let u : leb (length l) (length b - w) ≡ true = grind (arith, nat_tests) in
@@ -84,8 +67,8 @@ all_stands b w (l ∷ ls) h = ⊎_elim (λ k. left_out k) (λ k. fits k (all_sta
         let s = again (omega arith) in
         let r : length (pasted b w l) - (w + length l) ≡ length b - w - length l = omega arith in
         let a : w + length l + length (together ls) ≡ w + length (l ++ together ls) = rw (length-append l (together ls)) (omega arith) in
-        let one : put (page b w false) l ≡ page (pasted b w l) (w + length l) false = rw t refl in
-        let all : put_all (put (page b w false) l) ls ≡ put_all (page (pasted b w l) (w + length l) false) ls = ap (λ (q : Page). put_all q ls) one in
+        let one : put (page b (Some w)) l ≡ page (pasted b w l) (Some (w + length l)) = rw t refl in
+        let all : put_all (put (page b (Some w)) l) ls ≡ put_all (page (pasted b w l) (Some (w + length l))) ls = ap (λ (q : Page). put_all q ls) one in
         record {
           bytes =
               ap (λ (q : Page). q.bytes) all
@@ -104,7 +87,6 @@ filled outs before after p r e f g =
       reply = f ∙ (ap result e ∙ (s.reply ∙ rw (zero-add (length (together outs))) refl));
     }
 
--- the same page, facts and rules print the same
-pub alike : (p q : Page) (h k : Holding) (s t : RuleSet) (ls : List Bytes) → p ≡ q → h ≡ k → s ≡ t
-    → put_all p (outputs (accepted h s) 1 ls) ≡ put_all q (outputs (accepted k t) 1 ls)
-alike p q h k s t ls e f g = λ i. put_all (e i) (outputs (accepted (f i) (g i)) 1 ls)
+-- the same page and the same that is accepted print the same
+pub alike : (p q : Page) (a b : Accepted) (ls : List Bytes) → p ≡ q → a ≡ b → put_all p (outputs a 1 ls) ≡ put_all q (outputs b 1 ls)
+alike p q a b ls e f = λ i. put_all (e i) (outputs (f i) 1 ls)

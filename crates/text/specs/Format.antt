@@ -1,13 +1,12 @@
 -- What is printed of a line.
-use Rattle.std.specs.Prelude.{ℕ, ◌+◌, [], ◌∷◌, ◌++◌, Ok, Err, codes, decimal, Result}
+use Rattle.std.specs.Prelude.{ℕ, ◌+◌, [], ◌∷◌, ◌++◌, Some, None, Ok, Err, codes, decimal, Option, Result}
 use Rattle.league.specs.declared.facts.Entry.{Entry}
 use Rattle.league.specs.declared.facts.Entry.TheVariants.{New, Known}
 use Rattle.league.specs.declared.faults.Place.{Place}
 use Rattle.league.specs.declared.faults.StoreFault.{StoreFault}
-use Rattle.league.specs.declared.faults.StoreFault.TheVariants as store
 use Rattle.league.specs.declared.faults.BookFault.{BookFault}
 use Rattle.league.specs.declared.faults.BookFault.TheVariants as book
-use Rattle.league.specs.Faults.{book_number}
+use Rattle.league.specs.Faults.{book_number, store_place, book_place}
 use Rattle.text.specs.declared.faults.LineFault.{LineFault}
 use Rattle.text.specs.declared.faults.LineFault.TheVariants as line
 use Rattle.text.specs.Lines.{Bytes}
@@ -41,24 +40,15 @@ abbrev pub field_at : Place → ℕ
 field_at p = p.0 + 1
 
 -- refusals that tell an argument name its field, others field 1
+abbrev pub field_told : Option Place → ℕ
+field_told None = 1
+field_told (Some p) = field_at p
+
 abbrev pub store_field : StoreFault → ℕ
-store_field (store.Kind p) = field_at p
-store_field (store.Link p) = field_at p
-store_field (store.Name p) = field_at p
-store_field store.Full = 1
+store_field fault = field_told (store_place fault)
 
 abbrev pub book_field : BookFault → ℕ
-book_field (book.Store fault) = store_field fault
-book_field (book.Kind p) = field_at p
-book_field (book.Link p) = field_at p
-book_field (book.Name p) = field_at p
-book_field book.Pairs = 1
-book_field book.Size = 1
-book_field (book.Variable p) = field_at p
-book_field book.Answers = 1
-book_field book.Contradiction = 1
-book_field book.Page = 1
-book_field book.Match = 1
+book_field fault = field_told (book_place fault)
 
 abbrev pub field_of : LineFault → ℕ
 field_of (line.Book fault) = book_field fault

@@ -4,6 +4,7 @@ pub mod Forms
 pub mod Grammar
 pub mod Lines
 pub mod Pages
+pub mod Pieces
 pub mod Runs
 pub mod Tokens
 pub mod Written

@@ -6,6 +6,7 @@ ghost use Rattle.text.specs.Forms.{plain, digits_form, numeral, letter as one_le
 use league::facts::{Kind, Link};
 use league::roles::{Mark, Role};
 
+// No `TryFrom<&[u8]>`, which this crate may not write for `u16`.
 /// What a field of a line can say.
 pub trait FieldForm: Copy {
     ghost form: { Bytes → Option Self };
@@ -15,8 +16,9 @@ pub trait FieldForm: Copy {
         ensures { result ≡ form part.now };
 }
 
+// A byte: an enum of the six letters would be matched twice, here and where a line's form is chosen.
 /// The letter that a line begins with.
-#[derive(Clone, Copy)]
+#[derive(Clone, Copy, PartialEq, Eq)]
 pub struct Letter(pub u8);
 
 /// One to four digits without leading zeros.
@@ -36,11 +38,10 @@ impl FieldForm for u16 {
 fn is_plain(part: &[u8]) -> bool
     ensures { result ≡ plain part.now }
 {
-    match part.len() {
-        0 => false,
-        1 => true,
-        2..=4 => part[0] != b'0',
-        _ => false,
+    match part {
+        [] => false,
+        [_] => true,
+        [first, ..] => part.len() <= 4 && *first != b'0',
     }
 }
 
@@ -49,12 +50,13 @@ fn read_digits(digits: &[u8]) -> Option<u16>
     requires { length digits.now ≤ 4 }
     ensures { result ≡ digits_form digits.now }
 {
-    let mut number: u16 = 0;
+    // A loop: `str::parse` also reads a sign, and in the closure of a `try_fold` nothing bounds the number so far.
+    let mut number = 0;
     for digit in digits {
-        if *digit < b'0' || *digit > b'9' {
+        if !digit.is_ascii_digit() {
             return None;
         }
-        number = 10 * number + (*digit - b'0') as u16;
+        number = 10 * number + u16::from(*digit - b'0');
     }
     Some(number)
 }
@@ -72,7 +74,7 @@ impl FieldForm for Letter {
 }
 
 /// A letter with a number after it.
-#[derive(Clone, Copy)]
+#[derive(Clone, Copy, PartialEq, Eq)]
 pub struct Lettered {
     pub letter: u8,
     pub number: u16,
@@ -86,10 +88,8 @@ fn read_lettered(part: &[u8]) -> Option<Lettered>
         return None;
     };
     let letter = *letter;
-    match <u16 as FieldForm>::read(digits) {
-        Some(number) => Some(Lettered { letter, number }),
-        None => None,
-    }
+    let number = u16::read(digits)?;
+    Some(Lettered { letter, number })
 }
 
 /// The letter k and a number.
@@ -97,9 +97,9 @@ impl FieldForm for Kind {
     ghost form = { kind_form };
 
     fn read(part: &[u8]) -> Option<Kind> {
-        let token = read_lettered(part)?;
-        match token.letter as char {
-            'k' => Some(Kind(token.number)),
+        let Lettered { letter, number } = read_lettered(part)?;
+        match letter {
+            b'k' => Some(Kind(number)),
             _ => None,
         }
     }
@@ -110,26 +110,22 @@ impl FieldForm for Role {
     ghost form = { role_form };
 
     fn read(part: &[u8]) -> Option<Role> {
-        let token = read_lettered(part)?;
-        match token.letter as char {
-            'f' => Some(Role::Forward(Link(token.number))),
-            'b' => Some(Role::Backward(Link(token.number))),
+        let Lettered { letter, number } = read_lettered(part)?;
+        match letter {
+            b'f' => Some(Role::Forward(Link(number))),
+            b'b' => Some(Role::Backward(Link(number))),
             _ => None,
         }
     }
 }
 
-/// The letter k, f or b and a number.
+/// A kind, or a role for having some partner by it.
 impl FieldForm for Mark {
     ghost form = { mark_form };
 
     fn read(part: &[u8]) -> Option<Mark> {
-        let token = read_lettered(part)?;
-        match token.letter as char {
-            'k' => Some(Mark::Is(Kind(token.number))),
-            'f' => Some(Mark::Has(Role::Forward(Link(token.number)))),
-            'b' => Some(Mark::Has(Role::Backward(Link(token.number)))),
-            _ => None,
-        }
+        Kind::read(part)
+            .map(Mark::Is)
+            .or_else(|| Role::read(part).map(Mark::Has))
     }
 }

@@ -4,12 +4,10 @@
 pub mod faults;
 pub mod fields;
 pub mod forms;
-pub mod output;
 pub mod page;
-pub mod printing;
+pub mod pieces;
 pub mod reader;
 pub mod render;
 pub mod runs;
 pub mod scan;
 pub mod tokens;
-mod writer;

@@ -1,5 +1,8 @@
-use Rattle.std.proofs.Common.{◌≤◌, length}
+use Rattle.std.proofs.Common.{◌-◌, ◌≤◌, length}
 use Rattle.register.proofs.read_text.Given as goal
 
-abbrev pub invariant-loop : goal.invariant-loop
-invariant-loop l = l.len ≤ length l.bytes
+abbrev pub invariant-loop-len : goal.invariant-loop-len
+invariant-loop-len l = l.len ≤ length l.bytes
+
+abbrev pub decreases-loop-len : goal.decreases-loop-len
+decreases-loop-len l = length l.bytes - l.len

@@ -1,11 +1,14 @@
-use Rattle.std.proofs.Common.{sym, ◌∙◌}
-use Rattle.league.proofs.Covering.{covered_more, uncovered}
+use Rattle.std.proofs.Common.{◌∙◌, refl, rules, arith}
+use borrow.Author.Tests.{tests}
+use Rattle.std.proofs.lemmas.Iterator.{YieldsList-from_range}
+use Rattle.std.proofs.lemmas.Iterator.Search.{all_from_yields_List}
+use Rattle.league.specs.Filling.{mentioned}
+use Rattle.league.proofs.Covering.{covered_range}
 use Rattle.league.proofs.cover.covers.Goals as goal
 
-pub returns-then-not-some_has : goal.returns-then-not-some_has
-returns-then-not-some_has c =
-    sym (uncovered c.args.answers c.loop-variable.variable c.args.atoms.now c.loop-variable-test.true (sym c.some_has.ensures ∙ c.if-not-some_has.true))
-
-pub loop-variable-preserved : goal.loop-variable-preserved
-loop-variable-preserved c =
-    covered_more c.loop-variable.variable c.args.atoms.now c.loop-variable.invariant (sym c.some_has.ensures ∙ c.if-not-some_has.false)
+pub returns : goal.returns
+returns c =
+    let atoms = c.args.atoms.now
+    in all_from_yields_List (λ v. mentioned v atoms) _ _ _ c.all.ensures.ran (YieldsList-from_range 0 _ c.args.answers refl (omega arith))
+    (λ v b f called. search (rules, tests))
+    ∙ covered_range c.args.answers atoms

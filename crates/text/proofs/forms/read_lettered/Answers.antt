@@ -1,4 +1,4 @@
-use Rattle.std.proofs.Common.{get_or, ap, ◌∙◌, rules}
+use Rattle.std.proofs.Common.{◌≡◌, None, get_or, ap, ◌∙◌, rules}
 use Rattle.std.proofs.lemmas.List.{take_rest}
 use Rattle.text.specs.Forms.{beside, numeral, lettered}
 use Rattle.text.proofs.forms.read_lettered.Goals as goal
@@ -7,14 +7,15 @@ pub returns-in_default : goal.returns-in_default
 unfolding lettered
 returns-in_default c = search rules
 
-pub returns-in-Some : goal.returns-in-Some
+pub returns-in_err-number : goal.returns-in_err-number
 unfolding lettered
-returns-in-Some c =
+returns-in_err-number c =
     let s = c.args.part.now in
-    ap (beside (get_or s 0 0)) (c.in-Some.ensures ∙ ap numeral (take_rest s 1))
+    let none : c.from_residual.result ≡ None = search rules in
+    none ∙ ap (beside (get_or s 0 0)) (c.in_err-number.ensures ∙ ap numeral (take_rest s 1))
 
-pub returns-in-None : goal.returns-in-None
+pub returns : goal.returns
 unfolding lettered
-returns-in-None c =
+returns c =
     let s = c.args.part.now in
-    ap (beside (get_or s 0 0)) (c.in-None.ensures ∙ ap numeral (take_rest s 1))
+    ap (beside (get_or s 0 0)) (c.in_ok-number.ensures ∙ ap numeral (take_rest s 1))

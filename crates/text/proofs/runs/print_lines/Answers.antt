@@ -1,21 +1,12 @@
-use Rattle.std.proofs.Common.{◌+◌, sym, ap, ◌∙◌}
-use Rattle.std.proofs.lemmas.List.{nil_from_length}
-use Rattle.std.proofs.lemmas.Bool.{eqb-true}
-use Rattle.rules.specs.Tables.{means}
-use Rattle.certain.specs.Reference.{accepted}
-use Rattle.text.specs.Lines.{Bytes, lines}
-use Rattle.text.specs.Pages.{page, put_all}
-use Rattle.text.specs.Runs.{outputs}
+use Rattle.std.proofs.Common.{ap, ◌∙◌, length, arith}
 use Rattle.text.proofs.runs.print_lines.Goals as goal
 
-pub returns : goal.returns
-returns g c =
-    let x = c.loop-rest in
-    let none = nil_from_length x.rest.now (eqb-true _ _ (sym c.loop-rest-test.ensures)) in
-    record {
-      lent = x.invariant.1;
-      printed =
-          ap (λ (r : Bytes). put_all (page x.page.bytes.now x.page.written x.page.full)
-          (outputs (accepted (g.S.Store.means x.register.store) (means x.register.rules)) (x.number + 1) (lines r))) (sym none)
-          ∙ x.invariant.0;
-    }
+pub loop-line-preserved : goal.loop-line-preserved
+loop-line-preserved g c =
+    let x = c.loop-line.invariant in
+    let e = c.in-Some.ensures.steps in
+    let outcome = c.carry_out_line-outcome.ensures in (
+      rw (c.put.ensures.put, c.as_str.ensures.value, c.render.ensures, outcome.replies, outcome.holds) (rw e at x.0),
+      c.put.ensures.lent ∙ x.1,
+      omega (arith, ap length e, x.2),
+    )

@@ -1,11 +1,10 @@
 use Rattle.std.proofs.Common.{ap, ◌∙◌, MutBor, rules}
-use Rattle.store.specs.Holding.{Holding, opened}
+use Rattle.store.specs.Holding.{Holding}
 use Rattle.store.specs.Records.{held, record_limit}
 use Rattle.store.specs.declared.records.RecordStore.{RecordStore}
-use Rattle.rules.specs.RuleSet.{no_rules}
-use Rattle.rules.specs.Tables.{means}
+use Rattle.certain.specs.Reference.{accepted, accepted_by, at_first}
 use Rattle.text.specs.Lines.{lines}
-use Rattle.text.specs.Pages.{page, fresh}
+use Rattle.text.specs.Pages.{shown, fresh}
 use Rattle.text.specs.Runs.{printed}
 use Rattle.text.proofs.Pages.{filled, alike}
 use Rattle.text.proofs.runs.run.Goals as goal
@@ -15,13 +14,12 @@ facts r = held r.now.names r.now.records.now r.now.len
 
 pub returns : goal.returns
 returns c =
-    let p = c.print_lines.new.page in
-    let o = c.new-output.result in
-    let r = c.new-register.result in
+    let r = c.new-register in
     let limit = record_limit c.args.records.now in
+    let page = c.args.page.now in
     let text = c.args.text.now in
-    filled (printed 1024 limit text) c.args.page.now _ (page p.bytes.now p.written p.full) c.result.result
+    filled (printed 1024 limit text) page _ (shown c.print_lines.new.page) c.result.result
     (c.print_lines.ensures.printed
-    ∙ alike (page o.bytes.now o.written o.full) (fresh c.args.page.now) (facts r.store) (opened 1024 limit) (means r.rules) no_rules (lines text)
-    c.new-output.ensures.fresh (ap facts c.new-register.ensures.store ∙ c.open-store.ensures.opened) c.new-register.ensures.rules)
+    ∙ alike (shown c.new-output.result) (fresh page) (accepted_by facts r.result) (at_first 1024 limit) (lines text) c.new-output.ensures.fresh
+    (λ i. accepted ((ap facts r.ensures.store ∙ c.open-store.ensures.opened) i) (r.ensures.rules i)))
     c.result.ensures (search rules)

@@ -3,7 +3,6 @@ use Rattle.league.proofs.Acceptance.{accepted_proper}
 use Rattle.league.proofs.Order.{in_order}
 use Rattle.league.proofs.question.Question.terms.Goals as goal
 
-pub returns : goal.returns
-returns c =
-    let q = c.args.self.now
-    in record { own = c.filled_terms.ensures; ordered = in_order q.answers (atoms_of q) (accepted_proper q.answers (atoms_of q) q.accepted) }
+pub returns-clause-ordered : goal.returns-clause-ordered
+returns-clause-ordered c =
+    let q = c.args.self.now in in_order q.answers (atoms_of q) (accepted_proper q.answers (atoms_of q) q.accepted)

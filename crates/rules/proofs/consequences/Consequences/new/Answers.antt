@@ -5,4 +5,4 @@ use Rattle.rules.proofs.consequences.Consequences.new.Goals as goal
 
 pub returns : goal.returns
 returns c =
-    decided (means c.args.table.now) (table_proper c.args.table.now) (record { roles = c.role_table-roles.result; marks = c.mark_table-marks.result }) c.role_table-roles.ensures c.mark_table-marks.ensures
+    decided (means c.args.table.now) (table_proper c.args.table.now) (record { roles = c.reach_table-roles.result; marks = c.reach_table-marks.result }) c.reach_table-roles.ensures c.reach_table-marks.ensures

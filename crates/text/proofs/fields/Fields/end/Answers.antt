@@ -2,8 +2,5 @@ use Rattle.std.proofs.Common.{refl}
 use Rattle.text.proofs.Cuts.{fields_some}
 use Rattle.text.proofs.fields.Fields.end.Goals as goal
 
-pub returns-then-self : goal.returns-then-self
-returns-then-self c =
-    let s = c.args.self.now in
-    let f = fields_some s.rest.now in
-    rw (c.if-self.true, f.2) refl
+pub returns-in-Some : goal.returns-in-Some
+returns-in-Some c = let f = fields_some c.in-Some.field-0.now in rw (c.in-Some.is, f.2) refl
