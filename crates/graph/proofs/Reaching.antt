@@ -1,5 +1,5 @@
 -- The reach search: what its sets keep from turn to turn, and what they hold at its end.
-use Rattle.std.proofs.Common.{◌≡◌, ℕ, zero, suc, ◌+◌, ◌<◌, Bool, true, false, cond, not, ◌||◌, T, ◌⊎◌, List, [], ◌∷◌, length, get_or, set, replicate, count_by, sym, refl, ◌∙◌, subst, inl, inr, ⊎_elim, arith, length-set}
+use Rattle.std.proofs.Common.{◌≡◌, ℕ, zero, suc, ◌+◌, ◌<◌, ◌≤◌, Option, None, Some, Bool, true, false, cond, not, ◌&&◌, ◌||◌, T, ◌⊎◌, List, [], ◌∷◌, length, get_or, set, replicate, count_by, sym, refl, ◌∙◌, subst, inl, inr, ⊎_elim, arith, length-set, MatchOption}
 use lib.ListN.{length-replicate}
 use Rattle.std.proofs.lemmas.List.{get_or-set_other, get_or-replicate, get_or_past}
 use Rattle.std.proofs.lemmas.List.Sums.{sum_by-set}
@@ -11,6 +11,30 @@ pub in_below : (xs : List Bool) (k : ℕ) → In xs k → k < length xs
 in_below [] k t = absurd t
 in_below (x ∷ xs) zero t = omega arith
 in_below (x ∷ xs) (suc k) t = omega (arith, in_below xs k t)
+
+-- whether a node of a set is not finished
+abbrev pub is_open : List Bool → List Bool → ℕ → Bool
+is_open found finished k = get_or found k false && not (get_or finished k false)
+
+set_and_not : (x y : Bool) → (x && not y) ≡ true → T x × (y ≡ false)
+set_and_not false y e = absurd (subst T (sym e) tt)
+set_and_not true false e = (tt, refl)
+set_and_not true true e = absurd (subst T (sym e) tt)
+
+set_so_both : (x y : Bool) → (x && not y) ≡ false → T x → T y
+set_so_both false y e t = absurd t
+set_so_both true true e t = tt
+set_so_both true false e t = absurd (subst T e tt)
+
+-- what the first open number below the length of a set tells of the set
+pub first_open : (found finished : List Bool) (r : Option ℕ)
+    → MatchOption r ((k : ℕ) → 0 ≤ k → k < length found → is_open found finished k ≡ false) (λ i. (0 ≤ i) × (i < length found) × (is_open found finished i ≡ true) × ((k : ℕ) → 0 ≤ k → k < i → is_open found finished k ≡ false))
+    → MatchOption r ((k : ℕ) → In found k → In finished k) (λ i. (i < length found) × In found i × (get_or finished i false ≡ false))
+first_open found finished None h = λ k t.
+    set_so_both (get_or found k false) (get_or finished k false) (h k (omega arith) (in_below found k t)) t
+first_open found finished (Some i) h =
+    let b = set_and_not (get_or found i false) (get_or finished i false) h.2 in
+    (h.1, b.0, b.1)
 
 -- one of two tests
 pub or_in : (x y : Bool) → T (x || y) → T x ⊎ T y

@@ -39,17 +39,22 @@ impl Question {
         if answers > 4 || atoms.is_empty() {
             return Err(BookFault::Answers);
         }
-        let filled = ArrayVec::try_from(atoms).map_err(|_| BookFault::Size)?;
+        if atoms.len() > 16 {
+            return Err(BookFault::Size);
+        }
         check_numbers(atoms)?;
         let terms = gather(atoms)?;
         if !covers(atoms, answers) {
             return Err(BookFault::Answers);
         }
-        *self = Question {
-            answers,
-            atoms: filled,
-            terms,
-        };
+        // Part by part and last of all: what is refused is not copied, and no question is moved as a whole.
+        let mut filled = ArrayVec::new();
+        filled
+            .try_extend_from_slice(atoms)
+            .map_err(|_| BookFault::Size)?;
+        self.answers = answers;
+        self.atoms = filled;
+        self.terms = terms;
         Ok(())
     }
 

@@ -83,41 +83,6 @@ module _ (before after : List (List Bool)) (row column : ℕ) (set : IsSet befor
       in fewer_left (λ p. flag before (p / 8) (p % 8)) (λ p. flag after (p / 8) (p % 8)) (λ p. kept (p / 8) (p % 8)) 64 (8 * row + column) (omega arith)
       (at before ∙ e) (at after ∙ set_there)
 
--- P of each pair of places that is flagged, and of no other among the first n pairs, row by row
-pub record Told (P : ℕ → ℕ → Type 0) (n : ℕ) (table : List (List Bool)) : Type 0 where
-  pub sound : (i j : ℕ) → flag table i j ≡ true → P i j
-  pub complete : (i j : ℕ) → j < 8 → 8 * i + j < n → flag table i j ≡ false → P i j → ⊥
-
-module _ {P : ℕ → ℕ → Type 0} where
-  pub told_none : (table : List (List Bool)) → ((i j : ℕ) → flag table i j ≡ false) → Told P 0 table
-  told_none table none = record { sound = λ i j e. absurd (both_ways (flag table i j) (none i j) e); complete = λ i j h l. absurd (omega arith) }
-
-  -- the next pair, which is flagged where P holds of it
-  pub told_set : {row column : ℕ} {before after : List (List Bool)} → Told P (8 * row + column) before → column < 8 → IsSet before row column after → P row column → Told P (8 * row + (column + 1)) after
-  told_set {row = row} {column = column} {before = before} {after = after} t h set p = record {
-    sound = set_or before after row column set P p t.sound;
-    complete = λ i j k l e. ⊎_elim
-        (λ m. t.complete i j k m (⊎_elim (λ a. absurd (both_ways (flag after i j) e (kept before after row column set i j a))) (λ a. a) (cases_Bool (flag before i j))))
-        (λ m. let q : row ≡ i = omega arith in let r : column ≡ j = omega arith
-        in absurd (both_ways (flag after i j) e (subst (λ a. flag after a j ≡ true) q (subst (λ a. flag after row a ≡ true) r (set_there before after row column set)))))
-        (cases_lt (8 * i + j) (8 * row + column));
-  }
-
-  pub told_not : {row column : ℕ} {table : List (List Bool)} → Told P (8 * row + column) table → column < 8 → (P row column → ⊥) → Told P (8 * row + (column + 1)) table
-  told_not {row = row} {column = column} t h n = record {
-    sound = t.sound;
-    complete = λ i j k l e p. ⊎_elim
-        (λ m. t.complete i j k m e p)
-        (λ m. let q : i ≡ row = omega arith in let r : j ≡ column = omega arith in n (subst (λ a. P row a) r (subst (λ a. P a j) q p)))
-        (cases_lt (8 * i + j) (8 * row + column));
-  }
-
-  pub told_same : {m n : ℕ} {table : List (List Bool)} → Told P m table → m ≡ n → Told P n table
-  told_same {table = table} t e = subst (λ k. Told P k table) e t
-
-  pub told_all : {table : List (List Bool)} {n : ℕ} → Told P n table → 64 ≤ n → (i j : ℕ) → i < 8 → j < 8 → Decides (flag table i j) (P i j)
-  told_all t l i j h k = record { yes = t.sound i j; not = t.complete i j k (omega arith) }
-
 -- each of the first n places is flagged with itself, and none with another
 pub record Diagonal (n : ℕ) (same : List (List Bool)) : Type 0 where
   pub equal : (i j : ℕ) → flag same i j ≡ true → i ≡ j

@@ -14,5 +14,6 @@ pub mod Odometer
 pub mod Ranges
 pub mod Rows
 pub mod Standing
+pub mod Stepped
 pub mod Steps
 pub mod Verdicts

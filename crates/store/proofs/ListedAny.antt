@@ -7,13 +7,13 @@ use Rattle.league.specs.contracts.facts.FactPartialEq.TheImpl.{ghosts}
 use Rattle.league.specs.Facts.{same}
 use Rattle.store.specs.Records.{listed}
 
-same_fact : (x f : Fact) → ghosts.eq x f ≡ same x f
+pub same_fact : (x f : Fact) → ghosts.eq x f ≡ same x f
 same_fact (Is k a) (Is m c) = refl
 same_fact (Is k a) (Joins m c d) = refl
 same_fact (Joins l a b) (Is m c) = refl
 same_fact (Joins l a b) (Joins m c d) = refl
 
 -- a fact is listed where one of the records is it
-pub listed_any : (xs : List Fact) (f : Fact) → listed xs f ≡ list_any (λ x. ghosts.eq x f) xs
+pub listed_any : (xs : List Fact) (f : Fact) → listed xs f ≡ list_any (λ x. same x f) xs
 listed_any [] f = refl
-listed_any (x ∷ xs) f = cc (same_fact x f, listed_any xs f)
+listed_any (x ∷ xs) f = cc (listed_any xs f)

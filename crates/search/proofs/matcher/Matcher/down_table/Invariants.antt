@@ -1,12 +1,12 @@
-use Rattle.std.proofs.Common.{◌+◌, ◌*◌}
-use Rattle.search.specs.Stepping.{DownAt}
-use Rattle.search.proofs.Forces.{Told}
+use Rattle.std.proofs.Common.{ℕ, slice_index_or}
+use Rattle.rules.specs.Flags.{flag}
+use Rattle.search.specs.Forcing.{Decides}
+use Rattle.search.specs.Searching.{no_atom}
+use Rattle.search.specs.Stepping.{goes_down}
+use Rattle.search.proofs.Stepped.{SomeBelow}
 use Rattle.search.proofs.matcher.Matcher.down_table.Given as goal
 
-abbrev pub invariant-loop-above : goal.invariant-loop-above
-invariant-loop-above g l =
-    Told (λ i j. DownAt (g.M.Model.form l.self.model.now) l.self.terms.now l.self.atoms.now l.cells i j) (8 * l.above) l.down.cells
-
-abbrev pub invariant-loop-below : goal.invariant-loop-below
-invariant-loop-below g l =
-    Told (λ i j. DownAt (g.M.Model.form l.self.model.now) l.self.terms.now l.self.atoms.now l.cells i j) (8 * l.above + l.below) l.down.cells
+abbrev pub invariant-loop-atom : goal.invariant-loop-atom
+invariant-loop-atom g l =
+    (i j : ℕ)
+    → Decides (flag l.down.cells i j) (SomeBelow (λ k. goes_down (g.M.Model.form l.self.model.now) l.self.terms.now l.cells (slice_index_or l.self.atoms.now k no_atom) i j) l.atom-index)
