@@ -45,10 +45,10 @@ fn print_lines<S: Store>(text: &[u8], register: &mut Register<S>, page: &mut Out
     }
 }
 
-/// Carries out a text on a fresh register over the lent records, and prints what became of each line on
+/// Carries out a text on a fresh register of 1,024 names over the lent records, and prints what became of each line on
 /// the page: the number of bytes written, or the refusal of a page that is too short.
 pub fn run(text: &[u8], records: &mut [Fact], page: &mut [u8]) -> Result<usize, BookFault>
-    ensures { Filled (printed NAMES (record_limit records.old) text.now) page.old page.new result }
+    ensures { Filled (printed 1024 (record_limit records.old) text.now) page.old page.new result }
 {
     let mut store = RecordStore::open(records, NAMES);
     let mut register = Register::new(&mut store);
