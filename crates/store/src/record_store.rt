@@ -11,6 +11,7 @@ use crate::records::RecordStore;
 use league::facts::{Entry, Fact};
 use league::faults::StoreFault;
 
+// The derived `==` in a function: `any` hands on what its test's contract says, and that speaks of the definition's equality.
 /// Whether a record is the fact.
 #[tactic(auto, using(crate::proofs::ListedAny::same_fact))]
 fn is_same(one: Fact, fact: Fact) -> bool
